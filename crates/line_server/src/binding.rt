@@ -17,7 +17,7 @@ use query_lines::Ports;
 use r53_io::{Bound, Link, Sink};
 use rand_core::Rng;
 use reply_sending::{Outcome, ROOM, send_outcome};
-use serve_turns::{Store, TurnsTaken, serve};
+use serve_turns::{PacketCache, Store, TurnsTaken, serve};
 
 /// Binds ports, and writes the reply. After an Ok bind another is AlreadyBound.
 ///
@@ -71,6 +71,7 @@ pub fn take_turns<L: Link, R: Rng, K: Sink>(
     link: &mut L,
     words: &mut R,
     packet: &mut [u8],
+    replies: &mut PacketCache,
     reply: &mut Reply,
     text: &mut Vec<u8>,
     out: &mut K,
@@ -105,7 +106,7 @@ pub fn take_turns<L: Link, R: Rng, K: Sink>(
     if !bound {
         return sent(send_outcome(&Outcome::NotBound, text, out));
     }
-    match serve(store, tables, link, words, turns, packet, reply) {
+    match serve(store, tables, link, words, turns, packet, replies, reply) {
         TurnsTaken::Took(took) => sent(send_outcome(&Outcome::Served(took), text, out)),
         TurnsTaken::Failed => Taken::LinkFault,
     }

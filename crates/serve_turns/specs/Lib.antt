@@ -1,3 +1,4 @@
+pub mod Settled
 pub mod Turning
 -- definitions of the store and what it stands on, for crates that stand on this one alone
 pub use Rattle.r53_core.specs.Holding

@@ -12,6 +12,7 @@ use crate::counting::no_turns;
 use crate::turning::{Turn, take_turn};
 use dns_wire::Reply;
 use geo_latency::Tables;
+use packet_cache::PacketCache;
 use r53_core::Store;
 use r53_io::Link;
 use rand_core::Rng;
@@ -28,7 +29,8 @@ pub enum TurnsTaken {
 
 /// Takes so many turns, or fewer where the network is closed. It takes no memory.
 ///
-/// Where the network fails, this call takes no later turn.
+/// Where the network fails, this call takes no later turn. What replies are kept before it and after it
+/// doesn't matter.
 pub fn serve<L: Link, R: Rng>(
     store: &mut Store,
     tables: &Tables,
@@ -36,6 +38,7 @@ pub fn serve<L: Link, R: Rng>(
     words: &mut R,
     n: u32,
     packet: &mut [u8],
+    replies: &mut PacketCache,
     reply: &mut Reply,
 ) -> TurnsTaken
     requires packet { 65535 ≤ length packet.old }
@@ -69,9 +72,12 @@ pub fn serve<L: Link, R: Rng>(
     ensures counts { L.faults link.old ≤ L.faults link.new }
     ensures failed { result ≡ TurnsTaken.Failed → Rose (L.faults link.old) (L.faults link.new) }
 {
+    replies.clear();
     let mut turns = no_turns();
     while turns.turns < n {
-        match take_turn(store, tables, link, words, packet, reply, &mut turns) {
+        match take_turn(
+            store, tables, link, words, packet, replies, reply, &mut turns,
+        ) {
             Turn::Taken => {}
             Turn::Closed => return TurnsTaken::Took(turns),
             Turn::Failed => return TurnsTaken::Failed,

@@ -1,18 +1,21 @@
 //! One turn.
 
-ghost use Rattle.std.specs.Prelude.{◌≡◌, ◌≢◌, ◌≤◌, List, length};
+ghost use Rattle.std.specs.Prelude.{◌≡◌, ◌≢◌, ◌≤◌, List, length, take};
 ghost use Rattle.octets.specs.Counts.{Rose};
 ghost use Rattle.r53_core.specs.Stores.{StandsFor};
 ghost use Rattle.r53_io.specs.Network.{Incoming};
 ghost use Rattle.serve_turns.specs.Turning.{AreWithin, Counts, GoesOn, PacketLeaves, IsAsDefined, TurnLeaves};
+ghost use Rattle.serve_turns.specs.Settled.{AreSettled};
 ghost use Rattle.session_model.specs.Serving.{Datagram, TurnsOutcome};
 
 use crate::counting::{count_packet, count_quiet, count_report};
 use crate::drawing::draw;
 use crate::observing::observe;
+use crate::replying::{known_octets, made};
 use dns_wire::Reply;
 use geo_latency::Tables;
 use octets::front;
+use packet_cache::{PacketCache, key_of};
 use r53_core::Store;
 use r53_io::{Arrival, Link, Peer, Sent};
 use rand_core::Rng;
@@ -36,10 +39,12 @@ pub(crate) fn take_turn<L: Link, R: Rng>(
     link: &mut L,
     words: &mut R,
     packet: &mut [u8],
+    replies: &mut PacketCache,
     reply: &mut Reply,
     turns: &mut Turns,
 ) -> Turn
     requires packet { 65535 ≤ length packet.old }
+    requires settled { AreSettled store.old.kept replies.old }
     requires room { 4096 ≤ reply.old.room }
     requires few { AreWithin 4294967294 turns.old }
     ensures leaves { (before : List Datagram) (old : TurnsOutcome) (arrivals : List Incoming)
@@ -60,6 +65,7 @@ pub(crate) fn take_turn<L: Link, R: Rng>(
     ensures counted { Counts result turns.old turns.new }
     ensures reports { GoesOn store.old store.new }
     ensures kept { store.new.kept ≡ store.old.kept }
+    ensures settled { AreSettled store.new.kept replies.new }
     ensures packet { length packet.new ≡ length packet.old }
     ensures room { reply.new.room ≡ reply.old.room }
     ensures ports { L.ports link.new ≡ L.ports link.old }
@@ -67,18 +73,9 @@ pub(crate) fn take_turn<L: Link, R: Rng>(
     ensures failed { result ≡ Turn.Failed → Rose (L.faults link.old) (L.faults link.new) }
 {
     match link.receive(packet) {
-        Arrival::Dns(peer, len) => {
-            answer(
-                store,
-                tables,
-                link,
-                words,
-                peer,
-                front(packet, len),
-                reply,
-                turns,
-            )
-        }
+        Arrival::Dns(peer, len) => answer(
+            store, tables, link, words, peer, packet, len, replies, reply, turns,
+        ),
         Arrival::Report(len) => {
             let taken = observe(store, front(packet, len));
             count_report(turns, taken);
@@ -93,17 +90,21 @@ pub(crate) fn take_turn<L: Link, R: Rng>(
     }
 }
 
-/// Answers a packet, where something is answered.
+/// Answers a packet that lies in front of these octets, where something is answered.
 fn answer<L: Link, R: Rng>(
     store: &mut Store,
     tables: &Tables,
     link: &mut L,
     words: &mut R,
     peer: Peer,
-    packet: &[u8],
+    packet: &mut [u8],
+    len: usize,
+    replies: &mut PacketCache,
     reply: &mut Reply,
     turns: &mut Turns,
 ) -> Turn
+    requires len { len ≤ length packet.old }
+    requires settled { AreSettled store.old.kept replies.old }
     requires room { 4096 ≤ reply.old.room }
     requires few { AreWithin 4294967294 turns.old }
     ensures leaves { (before : List Datagram) (old : TurnsOutcome) (arrivals : List Incoming)
@@ -114,7 +115,7 @@ fn answer<L: Link, R: Rng>(
           coming = L.coming link.old;
           sent = L.sent link.old;
         })
-        → PacketLeaves result tables.now before peer packet.now old arrivals
+        → PacketLeaves result tables.now before peer (take len packet.old) old arrivals
         (λ engine. StandsFor engine store.new)
         (record {
           words = R.stream words.new;
@@ -125,6 +126,8 @@ fn answer<L: Link, R: Rng>(
     ensures counted { Counts result turns.old turns.new }
     ensures reports { GoesOn store.old store.new }
     ensures kept { store.new.kept ≡ store.old.kept }
+    ensures settled { AreSettled store.new.kept replies.new }
+    ensures packet { length packet.new ≡ length packet.old }
     ensures room { reply.new.room ≡ reply.old.room }
     ensures ports { L.ports link.new ≡ L.ports link.old }
     ensures counts { L.faults link.old ≤ L.faults link.new }
@@ -132,17 +135,37 @@ fn answer<L: Link, R: Rng>(
     ensures open { result ≢ Turn.Closed }
 {
     let drawn = draw(words);
-    match store.query(tables, packet, peer.address, &drawn, reply) {
-        None => {
-            count_packet(turns, false);
-            Turn::Taken
-        }
-        Some(_) => match link.send(peer, reply.bytes()) {
+    known_octets(front(packet, len));
+    let key = key_of(front(packet, len));
+    match replies.answer(key, packet, len) {
+        Some(size) => match link.send(peer, front(packet, size)) {
             Sent::Whole => {
                 count_packet(turns, true);
                 Turn::Taken
             }
             Sent::Failed => Turn::Failed,
+        },
+        None => match made(
+            store,
+            tables,
+            peer.address,
+            &drawn,
+            front(packet, len),
+            key,
+            replies,
+            reply,
+        ) {
+            None => {
+                count_packet(turns, false);
+                Turn::Taken
+            }
+            Some(_) => match link.send(peer, reply.bytes()) {
+                Sent::Whole => {
+                    count_packet(turns, true);
+                    Turn::Taken
+                }
+                Sent::Failed => Turn::Failed,
+            },
         },
     }
 }

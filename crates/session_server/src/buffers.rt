@@ -6,6 +6,7 @@ ghost use Rattle.session_server.specs.Buffers.{IsReady};
 use dns_wire::Reply;
 use list_sending::{ROOM, Scratch, ValueText};
 use octets::{OutOfMemory, zeros};
+use packet_cache::PacketCache;
 use r53_io::MAX_DATAGRAM;
 use std::alloc::Global;
 
@@ -17,6 +18,8 @@ const REPLY_ROOM: usize = 4096;
 pub(crate) struct Buffers {
     /// A datagram that came.
     pub(crate) packet: Vec<u8>,
+    /// Replies that are kept while turns are taken.
+    pub(crate) replies: PacketCache,
     /// The reply to a packet.
     pub(crate) reply: Reply,
     /// A part of a reply line.
@@ -33,11 +36,13 @@ impl Buffers {
         ensures { IfOk result IsReady }
     {
         let packet = zeros(alloc, MAX_DATAGRAM)?;
+        let replies = PacketCache::new(alloc)?;
         let reply = Reply::new(alloc, REPLY_ROOM)?;
         let text = Vec::with_capacity(alloc, ROOM)?;
         let scratch = Scratch::new(alloc)?;
         Ok(Buffers {
             packet,
+            replies,
             reply,
             text,
             scratch,

@@ -476,6 +476,7 @@ impl Server {
             link,
             words,
             &mut self.buffers.packet,
+            &mut self.buffers.replies,
             &mut self.buffers.reply,
             &mut self.buffers.text,
             out,

@@ -11,6 +11,7 @@ loop-turns-init g c = record {
   room = refl;
   reports = stays c.args.store.now c.args.store.now refl;
   kept = refl;
+  settled = λ kept keeps. absurd (c.clear.ensures kept keeps);
   ports = refl;
   counts = omega arith;
   so_far = at_start c.args.tables.now c.args.store.now (g.R.Rng.stream c.args.words.now)
@@ -27,6 +28,7 @@ loop-turns-preserved g c = record {
   reports = joined c.args.store.now c.loop-turns.store c.take_turn.new.store
       c.loop-turns.invariant.reports c.in-Taken.ensures.reports;
   kept = c.in-Taken.ensures.kept ∙ c.loop-turns.invariant.kept;
+  settled = c.in-Taken.ensures.settled;
   ports = c.in-Taken.ensures.ports ∙ c.loop-turns.invariant.ports;
   counts = omega (arith, c.in-Taken.ensures.counts, c.loop-turns.invariant.counts);
   so_far = goes_on c.args.tables.now c.args.store.now

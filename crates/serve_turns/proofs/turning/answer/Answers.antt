@@ -1,4 +1,4 @@
-use Rattle.std.proofs.Common.{◌++◌, ◌∙◌, ap, sym, subst, refl, List, ℕ, ◌∷◌, [], Some}
+use Rattle.std.proofs.Common.{◌++◌, sym, subst, refl, take}
 use Rattle.r53_core.specs.Stores.{StandsFor, State as Store}
 use Rattle.serve_turns.proofs.Going.{stays}
 use Rattle.serve_turns.proofs.Packets.{answered, silent}
@@ -6,14 +6,14 @@ use Rattle.serve_turns.proofs.turning.answer.Goals as goal
 
 pub returns-in-None-clause-leaves : goal.returns-in-None-clause-leaves
 returns-in-None-clause-leaves g c = λ before old arrivals stands_for stands.
-    silent c.args.tables.now before c.args.peer c.args.packet.now old arrivals
+    silent c.args.tables.now before c.args.peer (take c.args.len c.args.packet.now) old arrivals
     (record {
       words = g.R.Rng.stream c.args.words.now;
       turns = c.args.turns.now;
       coming = g.L.Link.coming c.args.link.now;
       sent = g.L.Link.sent c.args.link.now;
     })
-    stands (λ engine. StandsFor engine c.query.new.self) c.draw-drawn.result
+    stands (λ engine. StandsFor engine c.reply_to.new.store) c.draw-drawn.result
     c.draw-drawn.ensures.drawn
     (subst (λ (s : Store). StandsFor old.engine s) (sym c.in-None.ensures.same) stands_for)
     (record {
@@ -23,18 +23,18 @@ returns-in-None-clause-leaves g c = λ before old arrivals stands_for stands.
       sent = g.L.Link.sent c.args.link.now;
     })
     c.draw-drawn.ensures.behind refl
-    (c.in-None.ensures.gives old.engine stands_for) c.count_packet.ensures refl
+    (c.in-None.ensures.none refl old.engine stands_for) c.count_packet.ensures refl
 
 pub returns-in-Whole-clause-leaves : goal.returns-in-Whole-clause-leaves
 returns-in-Whole-clause-leaves g c = λ before old arrivals stands_for stands.
-    answered c.args.tables.now before c.args.peer c.args.packet.now old arrivals
+    answered c.args.tables.now before c.args.peer (take c.args.len c.args.packet.now) old arrivals
     (record {
       words = g.R.Rng.stream c.args.words.now;
       turns = c.args.turns.now;
       coming = g.L.Link.coming c.args.link.now;
       sent = g.L.Link.sent c.args.link.now;
     })
-    stands (λ engine. StandsFor engine c.query.new.self) c.draw-drawn.result
+    stands (λ engine. StandsFor engine c.reply_to.new.store) c.draw-drawn.result
     c.draw-drawn.ensures.drawn
     (subst (λ (s : Store). StandsFor old.engine s) (sym c.in-Some.ensures.same) stands_for)
     (record {
@@ -43,19 +43,18 @@ returns-in-Whole-clause-leaves g c = λ before old arrivals stands_for stands.
       coming = g.L.Link.coming c.send.new.self;
       sent = g.L.Link.sent c.send.new.self;
     })
-    c.draw-drawn.ensures.behind c.in-Whole.ensures.coming c.query.new.reply.bytes
-    (c.in-Some.ensures.gives old.engine stands_for) c.count_packet-in-Whole.ensures
-    (c.in-Whole.ensures.leaves (before ++ old.sent) stands.sent
-    ∙ ap (λ (l : List ℕ). Some ((before ++ old.sent) ++ (c.args.peer, l) ∷ [])) c.bytes.ensures)
+    c.draw-drawn.ensures.behind c.in-Whole.ensures.coming c.in-Some.octets.now
+    (c.in-Some.ensures.some old.engine stands_for) c.count_packet-in-Whole.ensures
+    (c.in-Whole.ensures.leaves (before ++ old.sent) stands.sent)
 
 pub returns-in-None-clause-reports : goal.returns-in-None-clause-reports
 returns-in-None-clause-reports g c =
-    stays c.args.store.now c.query.new.self c.in-None.ensures.same
+    stays c.args.store.now c.reply_to.new.store c.in-None.ensures.same
 
 pub returns-in-Whole-clause-reports : goal.returns-in-Whole-clause-reports
 returns-in-Whole-clause-reports g c =
-    stays c.args.store.now c.query.new.self c.in-Some.ensures.same
+    stays c.args.store.now c.reply_to.new.store c.in-Some.ensures.same
 
 pub returns-in-Failed-clause-reports : goal.returns-in-Failed-clause-reports
 returns-in-Failed-clause-reports g c =
-    stays c.args.store.now c.query.new.self c.in-Some.ensures.same
+    stays c.args.store.now c.reply_to.new.store c.in-Some.ensures.same

@@ -1,4 +1,4 @@
-use Rattle.std.proofs.Common.{◌∙◌, ap, refl, sym}
+use Rattle.std.proofs.Common.{◌∙◌, ap, refl, sym, take}
 use Rattle.std.specs.Prelude.{if◌then◌else◌}
 use Rattle.r53_core.specs.Stores.{StandsFor}
 use Rattle.session_model.specs.TurnsRecord.{Turns}
@@ -11,8 +11,8 @@ use Rattle.serve_turns.proofs.turning.take_turn.Goals as goal
 pub returns-in-Dns-clause-leaves : goal.returns-in-Dns-clause-leaves
 returns-in-Dns-clause-leaves g c = λ before old arrivals stands_for stands.
     let came = c.in-Dns.ensures.gives arrivals stands.coming in
-    packet_turned c.answer.result c.args.tables.now before c.in-Dns.peer c.front.result.now came.0
-    (c.front.ensures ∙ came.3.1) old arrivals came.1 came.2
+    packet_turned c.answer.result c.args.tables.now before c.in-Dns.peer
+    (take c.in-Dns.len c.receive.new.into) came.0 came.3.1 old arrivals came.1 came.2
     (λ engine. StandsFor engine c.answer.new.store)
     (record {
       words = g.R.Rng.stream c.answer.new.words;
@@ -30,8 +30,8 @@ returns-in-Dns-clause-leaves g c = λ before old arrivals stands_for stands.
 pub returns-in-Report-clause-leaves : goal.returns-in-Report-clause-leaves
 returns-in-Report-clause-leaves g c = λ before old arrivals stands_for stands.
     let came = c.in-Report.ensures.gives arrivals stands.coming in
-    report_turned c.args.tables.now before old arrivals came.1 came.0 c.front-in-Report.result.now
-    (c.front-in-Report.ensures ∙ came.3.1) came.2
+    report_turned c.args.tables.now before old arrivals came.1 came.0 c.front.result.now
+    (c.front.ensures ∙ came.3.1) came.2
     (λ engine. StandsFor engine c.observe-taken.new.store)
     (record {
       words = g.R.Rng.stream c.args.words.now;

@@ -1,0 +1,79 @@
+-- Replies that are kept.
+use Rattle.std.proofs.Common.{◌≡◌, ◌≤◌, ◌⊎◌, ◌++◌, ℕ, suc, zero, List, [], ◌∷◌, Option, None, Some, length, take, drop, sym, ap, ◌∙◌, subst, refl, inl, inr, arith}
+use Rattle.std.specs.Prelude.{IfSome}
+use Rattle.geo_latency.specs.declared.tables.Tables.{Tables}
+use Rattle.packet_cache.specs.Kept.{Keeps, KeepsNoMoreBut, Kept, kept_of}
+use Rattle.session_model.specs.Engine.{Engine, QueryGives, is_healthy}
+use Rattle.r53_core.specs.Journaled.{State, config_of}
+use Rattle.settled_replies.specs.Names.{AreOctets}
+use Rattle.settled_replies.specs.Reply.{Answers, Asker}
+use Rattle.settled_replies.specs.Settled.{AnswersAll, IsSettled}
+use Rattle.serve_turns.specs.Settled.{AreSettled}
+
+-- What answers whoever asks answers the one who does.
+pub by_all : (engine : Engine) (state : State) (tables : Tables) (asker : Asker) (packet octets : List ℕ)
+    → engine.config ≡ config_of state
+    → AnswersAll (config_of state).zones (config_of state).collections.list packet octets
+    → QueryGives engine tables asker packet (Some octets)
+by_all engine state tables asker packet octets same all =
+    subst (λ config. Answers (record {
+      zones = config.zones;
+      collections = config.collections.list;
+      healthy = is_healthy engine.config engine.reports;
+      tables = tables;
+    }) asker packet (Some octets)) (sym same) (all (is_healthy engine.config engine.reports) tables asker)
+
+take_two : (n : ℕ) (xs : List ℕ) → 2 ≤ n → take 2 (take n xs) ≡ take 2 xs
+take_two zero xs many = absurd (omega (arith, many))
+take_two (suc zero) xs many = absurd (omega (arith, many))
+take_two (suc (suc n)) [] many = refl
+take_two (suc (suc n)) (x ∷ []) many = refl
+take_two (suc (suc n)) (x ∷ y ∷ xs) many = refl
+
+two_left : (n : ℕ) (xs : List ℕ) → 2 ≤ n → n ≤ length xs → 2 ≤ length (take n xs)
+two_left zero xs many within = absurd (omega (arith, many))
+two_left (suc zero) xs many within = absurd (omega (arith, many))
+two_left (suc (suc n)) [] many within = absurd (omega (arith, within))
+two_left (suc (suc n)) (x ∷ []) many within = absurd (omega (arith, within))
+two_left (suc (suc n)) (x ∷ y ∷ xs) many within = omega arith
+
+module _ (state : State) where
+  -- a packet whose reply is kept, which stands in its place
+  pub answered_by : (replies : List (Option Kept)) → AreSettled state replies → (packet after : List ℕ)
+      (len size : ℕ) (reply : List ℕ) → 2 ≤ len → len ≤ length packet → AreOctets (take len packet)
+      → Keeps replies (record { packet = drop 2 (take len packet); reply = reply })
+      → take size after ≡ take 2 packet ++ reply
+      → AnswersAll (config_of state).zones (config_of state).collections.list (take len packet) (take size after)
+  answered_by replies are packet after len size reply many within octets keeps is =
+      subst (λ (o : List ℕ). AnswersAll (config_of state).zones (config_of state).collections.list (take len packet) o)
+      (ap (λ (l : List ℕ). l ++ reply) (take_two len packet many) ∙ sym is)
+      (are (record { packet = drop 2 (take len packet); reply = reply }) keeps (take len packet) octets
+      (two_left len packet many within) refl)
+
+  -- one more is kept
+  pub with_one : (old new : List (Option Kept)) (packet reply : List ℕ) → AreSettled state old
+      → IsSettled (config_of state).zones (config_of state).collections.list (drop 2 packet) (drop 2 reply)
+      → KeepsNoMoreBut (kept_of packet reply) old new → AreSettled state new
+  with_one old new packet reply are settled more kept keeps = by (more kept keeps)
+    where
+      by : Keeps old kept ⊎ (kept ≡ kept_of packet reply)
+          → IsSettled (config_of state).zones (config_of state).collections.list kept.packet kept.reply
+      by (inl before) = are kept before
+      by (inr is) =
+          subst (λ (k : Kept). IsSettled (config_of state).zones (config_of state).collections.list k.packet k.reply)
+          (sym is) settled
+
+-- the octets that are told, where some are
+abbrev answer_in : Option ℕ → (bytes : List ℕ) → Option (List ℕ)
+answer_in None bytes = None
+answer_in (Some n) bytes = Some bytes
+
+pub some_told : (result : Option ℕ) (bytes : List ℕ) (Q : Option (List ℕ) → Type 0) → Q (answer_in result bytes)
+    → IfSome result (λ n. Q (Some bytes))
+some_told None bytes Q told = tt
+some_told (Some n) bytes Q told = told
+
+pub none_told : (result : Option ℕ) (bytes : List ℕ) (Q : Option (List ℕ) → Type 0) → Q (answer_in result bytes)
+    → result ≡ None → Q None
+none_told None bytes Q told same = told
+none_told (Some n) bytes Q told same = absurd (grind (arith, same))
