@@ -1,9 +1,11 @@
 -- Replies that are kept.
 use Rattle.std.proofs.Common.{◌≡◌, ◌≤◌, ◌⊎◌, ◌++◌, ℕ, suc, zero, List, [], ◌∷◌, Option, None, Some, length, take, drop, sym, ap, ◌∙◌, subst, refl, inl, inr, arith}
 use Rattle.std.specs.Prelude.{IfSome}
+use Rattle.dns_wire.specs.Draft.{Draft}
 use Rattle.geo_latency.specs.declared.tables.Tables.{Tables}
 use Rattle.packet_cache.specs.Kept.{Keeps, KeepsNoMoreBut, Kept, kept_of}
 use Rattle.session_model.specs.Engine.{Engine, QueryGives, is_healthy}
+use Rattle.r53_core.specs.Asking.{answer_of}
 use Rattle.r53_core.specs.Journaled.{State, config_of}
 use Rattle.settled_replies.specs.Names.{AreOctets}
 use Rattle.settled_replies.specs.Reply.{Answers, Asker}
@@ -63,17 +65,13 @@ module _ (state : State) where
           subst (λ (k : Kept). IsSettled (config_of state).zones (config_of state).collections.list k.packet k.reply)
           (sym is) settled
 
--- the octets that are told, where some are
-abbrev answer_in : Option ℕ → (bytes : List ℕ) → Option (List ℕ)
-answer_in None bytes = None
-answer_in (Some n) bytes = Some bytes
+-- what is told of a reply, where there is one, and where there is none
+pub some_told : (result : Option ℕ) (reply : Draft) (Q : Option (List ℕ) → Type 0) → Q (answer_of result reply)
+    → IfSome result (λ n. Q (Some reply.bytes))
+some_told None reply Q told = tt
+some_told (Some n) reply Q told = told
 
-pub some_told : (result : Option ℕ) (bytes : List ℕ) (Q : Option (List ℕ) → Type 0) → Q (answer_in result bytes)
-    → IfSome result (λ n. Q (Some bytes))
-some_told None bytes Q told = tt
-some_told (Some n) bytes Q told = told
-
-pub none_told : (result : Option ℕ) (bytes : List ℕ) (Q : Option (List ℕ) → Type 0) → Q (answer_in result bytes)
+pub none_told : (result : Option ℕ) (reply : Draft) (Q : Option (List ℕ) → Type 0) → Q (answer_of result reply)
     → result ≡ None → Q None
-none_told None bytes Q told same = told
-none_told (Some n) bytes Q told same = absurd (grind (arith, same))
+none_told None reply Q told same = told
+none_told (Some n) reply Q told same = absurd (grind (arith, same))

@@ -1,0 +1,35 @@
+use Rattle.std.proofs.Common.{List, None, Option, Some, ℕ, subst}
+use Rattle.geo_latency.specs.declared.tables.Tables.{Tables}
+use Rattle.session_model.specs.Engine.{Engine, QueryGives}
+use Rattle.r53_core.specs.Asking.{answer_of}
+use Rattle.r53_core.specs.Stores.{StandsFor, State as Store}
+use Rattle.serve_turns.proofs.Settled.{none_told, some_told}
+use Rattle.serve_turns.proofs.replying.made.Goals as goal
+
+pub returns-then-not-note-clause-some : goal.returns-then-not-note-clause-some
+returns-then-not-note-clause-some c = some_told c.query.result c.query.new.reply
+    (λ (a : Option (List ℕ)). (engine : Engine) → StandsFor engine c.args.store.now
+    → QueryGives engine c.args.tables.now (record { peer = c.args.peer; words = c.args.words.now }) c.args.packet.now a)
+    c.query.ensures.gives
+
+pub returns-then-not-note-clause-none : goal.returns-then-not-note-clause-none
+returns-then-not-note-clause-none c = none_told c.query.result c.query.new.reply
+    (λ (a : Option (List ℕ)). (engine : Engine) → StandsFor engine c.args.store.now
+    → QueryGives engine c.args.tables.now (record { peer = c.args.peer; words = c.args.words.now }) c.args.packet.now a)
+    c.query.ensures.gives
+
+pub returns-in-None-clause-some : goal.returns-in-None-clause-some
+returns-in-None-clause-some c = some_told c.query-in-None.result c.query-in-None.new.reply
+    (λ (a : Option (List ℕ)). (engine : Engine) → StandsFor engine c.args.store.now
+    → QueryGives engine c.args.tables.now (record { peer = c.args.peer; words = c.args.words.now }) c.args.packet.now a)
+    (subst (λ (s : Store). (engine : Engine) → StandsFor engine s
+    → QueryGives engine c.args.tables.now (record { peer = c.args.peer; words = c.args.words.now }) c.args.packet.now
+    (answer_of c.query-in-None.result c.query-in-None.new.reply)) c.in-None.ensures.same c.query-in-None.ensures.gives)
+
+pub returns-in-None-clause-none : goal.returns-in-None-clause-none
+returns-in-None-clause-none c = none_told c.query-in-None.result c.query-in-None.new.reply
+    (λ (a : Option (List ℕ)). (engine : Engine) → StandsFor engine c.args.store.now
+    → QueryGives engine c.args.tables.now (record { peer = c.args.peer; words = c.args.words.now }) c.args.packet.now a)
+    (subst (λ (s : Store). (engine : Engine) → StandsFor engine s
+    → QueryGives engine c.args.tables.now (record { peer = c.args.peer; words = c.args.words.now }) c.args.packet.now
+    (answer_of c.query-in-None.result c.query-in-None.new.reply)) c.in-None.ensures.same c.query-in-None.ensures.gives)
