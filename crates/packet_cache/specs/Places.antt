@@ -5,7 +5,7 @@ use Rattle.packet_cache.specs.declared.places.Place.{Place}
 
 -- a place that nothing took
 abbrev pub free : Place
-free = record { generation = 0; packet = 0; reply = 0; octets = replicate 186 0 }
+free = record { generation = 0; packet = 0; reply = 0; octets = replicate 122 0 }
 
 -- what stands in a place: the octets of the packet, and behind them those of the reply
 abbrev pub told : Place → Kept

@@ -10,7 +10,7 @@ use std::alloc::Global;
 use std::marker::Model;
 
 /// How many places there are, and marks: a power of two.
-const PLACES: usize = 8_192;
+const PLACES: usize = 16_384;
 
 /// A mark of no packet.
 const NEVER: u32 = 3;
@@ -24,6 +24,9 @@ const KEPT: u32 = 1;
 /// Its reply isn't worth being kept.
 const PASSED: u32 = 2;
 
+/// Of so many packets that come to the place of another's reply, one takes it.
+const STAYS: u32 = 16;
+
 /// Replies by packets.
 #[derive(Drop)]
 pub struct PacketCache {
@@ -33,6 +36,8 @@ pub struct PacketCache {
     /// its key. Hints.
     marks: Vec<u32>,
     places: Vec<Place>,
+    /// How many packets came to the places of others' replies.
+    others: u32,
 }
 
 impl Model for PacketCache {
@@ -48,7 +53,7 @@ impl Model for PacketCache {
 }
 
 impl PacketCache {
-    /// A cache that keeps nothing. It takes one and a half megabytes, and no more later.
+    /// A cache that keeps nothing. It takes two megabytes, and no more later.
     pub fn new(alloc: Global) -> Result<PacketCache, OutOfMemory>
         ensures { IfOk result KeepsNothing }
     {
@@ -59,6 +64,7 @@ impl PacketCache {
             generation: 1,
             marks,
             places,
+            others: 0,
         })
     }
 
@@ -103,7 +109,8 @@ impl PacketCache {
     }
 
     /// Notes that a packet of this key came whose reply isn't kept, and says whether it is worth being kept: where such
-    /// a packet came before, and was not passed by.
+    /// a packet came before, and was not passed by. Most of those that come to the place of another's reply aren't
+    /// noted, so that what is kept stays where more packets come than there are places.
     pub fn note(&mut self, key: u64) -> bool
         ensures { self.new ≡ self.old }
     {
@@ -114,6 +121,9 @@ impl PacketCache {
         let came = mark_of(key, self.generation, CAME);
         if known == came {
             return true;
+        }
+        if known % 4 == KEPT && self.is_taken(key) && !self.gives_way() {
+            return false;
         }
         self.set_mark(key, came);
         false
@@ -139,6 +149,22 @@ impl PacketCache {
         self.set_mark(key, mark_of(key, self.generation, KEPT));
     }
 
+    /// Whether a reply is kept at a key's place.
+    fn is_taken(&self, key: u64) -> bool {
+        match self.places.get(at(key)) {
+            Some(place) => place.generation == self.generation,
+            None => false,
+        }
+    }
+
+    /// Whether the reply at a place gives way to another packet, as one in so many does.
+    fn gives_way(&mut self) -> bool
+        ensures { self.new ≡ self.old }
+    {
+        self.others = self.others.wrapping_add(1);
+        self.others % STAYS == 0
+    }
+
     /// The mark at a key's place.
     fn mark(&self, key: u64) -> u32 {
         match self.marks.get(at(key)) {
@@ -159,7 +185,7 @@ impl PacketCache {
 
 /// The place of a key.
 fn at(key: u64) -> usize {
-    (key % 8_192) as usize
+    (key % 16_384) as usize
 }
 
 /// The mark of a key in a generation, by which this is known.

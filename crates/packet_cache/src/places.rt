@@ -7,9 +7,9 @@ ghost use Rattle.packet_cache.specs.Places.{kept_in, told};
 use octets::{behind, front, put_at};
 
 /// How many octets a place has, for a packet and its reply together.
-pub(crate) const ROOM: usize = 186;
+pub(crate) const ROOM: usize = 122;
 
-/// A place, of three lines of memory.
+/// A place, of two lines of memory.
 #[derive(Clone, Copy)]
 pub(crate) struct Place {
     /// In which generation it was taken.
@@ -31,7 +31,7 @@ pub(crate) const FREE: Place = Place {
 
 /// A place with these octets of a packet and its reply.
 pub(crate) fn taken(generation: u32, packet: &[u8], reply: &[u8]) -> Place
-    requires { length packet.now + length reply.now ≤ 186 }
+    requires { length packet.now + length reply.now ≤ 122 }
     ensures generation { result.generation ≡ generation }
     ensures told { told result ≡ record { packet = packet.now; reply = reply.now } }
 {
