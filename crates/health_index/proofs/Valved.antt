@@ -4,7 +4,7 @@ use Rattle.std.specs.List.{remove}
 use Rattle.std.specs.Prelude.{◌⊎◌, if◌then◌else◌, nat_lt, slice_get}
 use Rattle.std.proofs.lemmas.Bool.{cases_lt, le-ltb, lt-ltb}
 use Rattle.std.proofs.lemmas.List.Edits.{length-remove}
-use Rattle.health_valves.proofs.Runs.{in_more}
+use Rattle.health_planning.proofs.Lists.{in_more}
 use Rattle.health_planning.specs.Wired.{HaveValves, IsSpare}
 
 -- ---- one more

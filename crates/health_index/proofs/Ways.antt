@@ -30,7 +30,7 @@ use Rattle.health_planning.specs.Building.{IsSeen}
 use Rattle.health_planning.specs.Later.{AreLater}
 use Rattle.health_planning.specs.Wired.{IsSpare, IsValveFor, StandApart, StandsAt, check_own, ids_of, place_of, valve_with}
 use Rattle.health_planning.specs.Zones.{Zone, placed_in}
-use Rattle.health_valves.proofs.Runs.{in_more}
+use Rattle.health_planning.proofs.Lists.{in_more}
 use Rattle.health_valves.specs.Pass.{IsIdle, MeetAll}
 use Rattle.health_valves.specs.Valves.{Condition, ValvesStandFor, with_own}
 use Rattle.health_valves.specs.declared.valves.Valves.{Valves}

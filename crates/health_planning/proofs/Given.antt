@@ -3,7 +3,7 @@ use Rattle.std.proofs.Common.{◌≡◌, ◌≢◌, ◌<◌, ◌≤◌, ◌+◌,
 use Rattle.std.specs.Prelude.{slice_get}
 use Rattle.std.proofs.lemmas.Bool.{cases_eq}
 use Rattle.check_model.specs.declared.checks.Check.{Check}
-use Rattle.health_valves.proofs.Runs.{in_more}
+use Rattle.health_planning.proofs.Lists.{in_more}
 use Rattle.health_valves.specs.declared.blueprint.Feeding.{Feeding}
 use Rattle.health_valves.specs.declared.blueprint.Trigger.{Trigger}
 use Rattle.policy_select.proofs.MembersOfZoneList.{filled}

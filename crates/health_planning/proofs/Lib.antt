@@ -8,6 +8,7 @@ pub mod Grouped
 pub mod Groups
 pub mod Joined
 pub mod ListedOnce
+pub mod Lists
 pub mod Numbers
 pub mod Places
 pub mod Planned

@@ -4,7 +4,7 @@ use Rattle.std.specs.Prelude.{◌==◌, slice_get}
 use Rattle.std.proofs.lemmas.Bool.{cases_eq, false≢true, ne_eqb, lt-leb}
 use Rattle.std.proofs.lemmas.Option.{get_or_from_slice_get, slice_get_read}
 use mathlib.Core.Path.{subst}
-use Rattle.health_valves.proofs.Runs.{in_more}
+use Rattle.health_planning.proofs.Lists.{in_more}
 use Rattle.health_valves.specs.declared.blueprint.Trigger.{Trigger}
 use Rattle.record_set.specs.declared.sets.RecordSet.{RecordSet}
 use Rattle.policy_select.specs.Changes.{ref_in}

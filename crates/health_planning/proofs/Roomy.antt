@@ -267,7 +267,8 @@ pub room_for_fewer : (valves : Valves) (n m fewer fewer_links : ℕ) → HasRoom
     → fewer ≤ n → fewer_links ≤ m → HasRoomFor valves fewer fewer_links
 room_for_fewer valves n m fewer fewer_links room few few_links =
     let rows = room.rows in
-    let edges = room.edges in
+    let feeds = room.feeds in
+    let lists = room.lists in
     let values = room.values in
     let counts = room.counts in
     let owns = room.owns in
@@ -275,7 +276,8 @@ room_for_fewer valves n m fewer fewer_links room few few_links =
     let marks = room.marks in
     record {
       rows = omega arith;
-      edges = omega arith;
+      feeds = omega arith;
+      lists = omega arith;
       values = omega arith;
       counts = omega arith;
       owns = omega arith;

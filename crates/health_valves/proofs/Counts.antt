@@ -4,7 +4,7 @@ use Rattle.std.specs.Prelude.{nat_le, slice_get}
 use Rattle.std.proofs.lemmas.Bool.{cases_eq, eq-eqb, ne_eqb, false≢true}
 use mathlib.Core.Bool.{beq}
 use Rattle.calculated_health.specs.Status.{swapped_if}
-use Rattle.health_valves.specs.Valves.{count}
+use Rattle.health_valves.specs.Valves.{BothWays, count}
 use Rattle.health_valves.specs.Valves.{Net, IsLaid, IsCounted, IsOwned, MeetsEquation, equation, with_own}
 use Rattle.health_valves.specs.declared.valves.ValveFeeds.{ValveFeeds}
 
@@ -65,5 +65,5 @@ module _ (net : Net) (own : ℕ → ℕ) (valve given : ℕ) where
       omega (arith, none, o)
 
   -- the value that the code works out is the equation's
-  pub now_is : (rows : List ValveFeeds) (edges : List ℕ) (row : ValveFeeds) (now : Bool) (v : ℕ → Bool) (n : ℕ) → IsLaid net rows edges → slice_get rows valve ≡ Some row → now ≡ swapped_if row.inverted (nat_le row.need n) → n ≡ with_own valve given own valve + count v (net.condition valve).feeders → now ≡ equation net (with_own valve given own) v valve
+  pub now_is : (rows : List ValveFeeds) (feeds : BothWays) (row : ValveFeeds) (now : Bool) (v : ℕ → Bool) (n : ℕ) → IsLaid net rows feeds → slice_get rows valve ≡ Some row → now ≡ swapped_if row.inverted (nat_le row.need n) → n ≡ with_own valve given own valve + count v (net.condition valve).feeders → now ≡ equation net (with_own valve given own) v valve
   now_is rows edges row now v n laid at e counted = let r = laid.each_row valve row at in e ∙ rw (r.need, r.inverted, counted) refl

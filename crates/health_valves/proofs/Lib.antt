@@ -1,9 +1,9 @@
 pub mod Counts
+pub mod Links
 pub mod Marks
 pub mod Members
 pub mod Needs
 pub mod Planning
-pub mod Runs
 pub mod Times
 pub mod Turns
 pub mod Walks

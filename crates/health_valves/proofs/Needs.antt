@@ -6,7 +6,7 @@ use Rattle.std.proofs.lemmas.Bool.{cases_eq, eq-eqb, ne_eqb}
 use mathlib.Core.Path.{subst}
 use Rattle.calculated_health.specs.Status.{swapped_if}
 use Rattle.health_valves.specs.Valves.{count}
-use Rattle.health_valves.specs.Valves.{Net, Condition, IsLaid, IsRow, IsCounted, IsOwned, Feeds, MeetsEquation, equation, fed, piece, with_need}
+use Rattle.health_valves.specs.Valves.{BothWays, Net, Condition, IsLaid, IsRow, IsCounted, IsOwned, Feeds, MeetsEquation, equation, with_need}
 use Rattle.health_valves.specs.Walk.{Leads, PathsEnd}
 use Rattle.health_valves.specs.declared.valves.ValveFeeds.{ValveFeeds}
 
@@ -30,20 +30,6 @@ pub set_here : {X : Type 0} (xs : List X) (k : ℕ) (x : X) → k < length xs �
 set_here [] k x within = absurd (omega arith)
 set_here (z ∷ xs) zero x within = refl
 set_here (z ∷ xs) (suc k) x within = set_here xs k x (omega arith)
-
--- another row whose run is the same
-fed_same : (edges : List ℕ) (rows : List ValveFeeds) (k : ℕ) (row now : ValveFeeds) → slice_get rows k ≡ Some row
-    → now.first ≡ row.first → now.end ≡ row.end → (n : ℕ) → fed (set rows k now) edges n ≡ fed rows edges n
-fed_same edges [] k row now at first end n = refl
-fed_same edges (r ∷ rows) zero row now at first end zero =
-    let is : r ≡ row = some_same at in
-    same now r (first ∙ ap (λ (w : ValveFeeds). w.first) (sym is)) (end ∙ ap (λ (w : ValveFeeds). w.end) (sym is))
-  where
-    same : (a b : ValveFeeds) → a.first ≡ b.first → a.end ≡ b.end → piece edges (Some a) ≡ piece edges (Some b)
-    same a b e f = rw (e, f) refl
-fed_same edges (r ∷ rows) zero row now at first end (suc n) = refl
-fed_same edges (r ∷ rows) (suc k) row now at first end zero = refl
-fed_same edges (r ∷ rows) (suc k) row now at first end (suc n) = fed_same edges rows k row now at first end n
 
 module _ (valve need : ℕ) (inverted : Bool) (net : Net) where
   abbrev now : Net
@@ -72,40 +58,33 @@ module _ (valve need : ℕ) (inverted : Bool) (net : Net) where
   unfolding PathsEnd
   ends_same n h = λ x y l. h x y (leads_same n x y l)
 
-  row_now : (edges : List ℕ) (n : ℕ) (old row : ValveFeeds) → n ≡ valve → IsRow (net.condition valve) edges old
-      → row.need ≡ need → row.inverted ≡ inverted → row.first ≡ old.first → row.end ≡ old.end
-      → IsRow (now.condition n) edges row
-  row_now edges n old row e is its_need its_inverted first end =
+  row_now : (n : ℕ) (row : ValveFeeds) → n ≡ valve → row.need ≡ need → row.inverted ≡ inverted
+      → IsRow (now.condition n) row
+  row_now n row e its_need its_inverted =
       let at : now.condition n ≡ record { need = need; inverted = inverted; feeders = (net.condition valve).feeders } = ap now.condition e ∙ here in
-      let ordered = is.first in
-      let within = is.end in
       record {
         need = its_need ∙ sym (ap (λ (c : Condition). c.need) at);
         inverted = its_inverted ∙ sym (ap (λ (c : Condition). c.inverted) at);
-        first = omega arith;
-        end = omega arith;
       }
 
   -- rows of which one has another condition
-  pub laid_now : (rows : List ValveFeeds) (edges : List ℕ) (old row : ValveFeeds) → IsLaid net rows edges
-      → slice_get rows valve ≡ Some old → row.need ≡ need → row.inverted ≡ inverted
-      → row.first ≡ old.first → row.end ≡ old.end → IsLaid now (set rows valve row) edges
-  laid_now rows edges old row laid at its_need its_inverted first end =
-      let same = fed_same edges rows valve old row at first end in
+  pub laid_now : (rows : List ValveFeeds) (feeds : BothWays) (row : ValveFeeds) → IsLaid net rows feeds
+      → row.need ≡ need → row.inverted ≡ inverted → IsLaid now (set rows valve row) feeds
+  laid_now rows feeds row laid its_need its_inverted =
       record {
         size = length-set rows valve row ∙ laid.size;
+        valves = laid.valves;
         each_row = λ n found is. elim (cases_eq n valve) [
           | inl e ↦
               let found_is : found ≡ row = set_at rows valve row found (subst (λ m. slice_get (set rows valve row) m ≡ Some found) e is) in
-              row_now edges n old found e (laid.each_row valve old at) (ap (λ (r : ValveFeeds). r.need) found_is ∙ its_need)
+              row_now n found e (ap (λ (r : ValveFeeds). r.need) found_is ∙ its_need)
               (ap (λ (r : ValveFeeds). r.inverted) found_is ∙ its_inverted)
-              (ap (λ (r : ValveFeeds). r.first) found_is ∙ first) (ap (λ (r : ValveFeeds). r.end) found_is ∙ end)
           | inr apart ↦
-              subst (λ (c : Condition). IsRow c edges found) (sym (there n apart))
+              subst (λ (c : Condition). IsRow c found) (sym (there n apart))
               (laid.each_row n found (sym (set_beside rows valve n row apart) ∙ is))
         ];
-        reversed = λ x y b. rw (same x, feeders_same y) (laid.reversed x y b);
-        within = λ x y i. laid.within x y (subst (λ l. Contains l y) (same x) i);
+        reversed = λ x y b. rw (feeders_same y) (laid.reversed x y b);
+        within = laid.within;
         ends = ends_same 64 laid.ends;
       }
 

@@ -1,6 +1,6 @@
 -- What stays true of valves when one of them is worked out.
 use Rattle.std.proofs.Common.{◌≡◌, ◌≢◌, ◌<◌, ◌≤◌, ◌+◌, ℕ, zero, suc, Bool, true, false, List, [], ◌∷◌, length, get_or, arith, refl, ap, sym, ◌∙◌, inl, inr, Some}
-use Rattle.std.specs.Prelude.{if◌then◌else◌, ◌==◌, slice_index, slice_get, All, nat_le}
+use Rattle.std.specs.Prelude.{if◌then◌else◌, ◌==◌, slice_index, slice_index_or, slice_get, All, nat_le}
 use Rattle.std.specs.List.{Contains, AllByRecursion}
 use Rattle.std.proofs.lemmas.Bool.{cases_eq, cases_lt, eq-eqb, ne_eqb}
 use Rattle.std.proofs.lemmas.Option.{slice_get_read}
@@ -9,7 +9,7 @@ use Rattle.calculated_health.specs.Status.{swapped_if}
 use Rattle.health_valves.specs.Valves.{count}
 use Rattle.health_valves.proofs.Members.{in_head, in_tail}
 use Rattle.health_valves.proofs.Members.{count_same}
-use Rattle.health_valves.specs.Valves.{times, Net, ValvesStandFor, IsLaid, IsCounted, Feeds, CountsFit, Flipped, value_in, MeetsEquation, fed, piece}
+use Rattle.health_valves.specs.Valves.{times, Net, ValvesStandFor, IsLaid, IsCounted, IsOwned, Feeds, CountsFit, Flipped, value_in, MeetsEquation, BothWays, fed_by}
 use mathlib.Core.Path.{subst}
 use Rattle.std.specs.Vec.{with_items, vec_capacity}
 use Rattle.std.proofs.lemmas.List.{with_items_is}
@@ -72,19 +72,19 @@ even true false after before own t s cv cw r o e c = omega arith
 even false true after before own t s cv cw r o e c = omega arith
 even false false after before own t s cv cw r o e c = omega arith
 
-module _ (net : Net) (own : ℕ → ℕ) (rows : List ValveFeeds) (edges : List ℕ) (laid : IsLaid net rows edges) where
+module _ (net : Net) (own : ℕ → ℕ) (rows : List ValveFeeds) (feeds : BothWays) (laid : IsLaid net rows feeds) where
   -- each count has room for the turn of one valve
-  pub room : (v : ℕ → Bool) (counts : List ℕ) → IsCounted net own v counts → (x : ℕ) (b : Bool) → v x ≡ b → CountsFit b counts (fed rows edges x)
+  pub room : (v : ℕ → Bool) (counts : List ℕ) → IsCounted net own v counts → (x : ℕ) (b : Bool) → v x ≡ b → CountsFit b counts (fed_by feeds x)
   room v counts is x true e = λ n. elim (cases_lt n net.size) [
     | inl b ↦ let r = laid.reversed x n b in let c = is.each n b in let t = times_most v x (net.condition n).feeders e in omega arith
-    | inr b ↦ let z = none_times (fed rows edges x) n net.size (laid.within x) b in omega arith
+    | inr b ↦ let z = none_times (fed_by feeds x) n net.size (laid.within x) b in omega arith
   ]
   room v counts is x false e = λ n. elim (cases_lt n net.size) [
     | inl b ↦ let r = laid.reversed x n b in let c = is.each n b in let t = times_beside v x (net.condition n).feeders e in let s = is.small n b in let m = is.few n b in omega arith
-    | inr b ↦ let z = none_times (fed rows edges x) n net.size (laid.within x) b in let p : slice_index counts n ≡ 0 = get_or_past counts n 0 (omega arith) in omega arith
+    | inr b ↦ let z = none_times (fed_by feeds x) n net.size (laid.within x) b in let p : slice_index counts n ≡ 0 = get_or_past counts n 0 (omega arith) in omega arith
   ]
 
-  pub turned : (v w : ℕ → Bool) (before after : List ℕ) (x : ℕ) → IsCounted net own v before → length after ≡ length before → ((n : ℕ) → n ≢ x → w n ≡ v n) → Flipped (v x) (w x) before after (fed rows edges x) → IsCounted net own w after
+  pub turned : (v w : ℕ → Bool) (before after : List ℕ) (x : ℕ) → IsCounted net own v before → length after ≡ length before → ((n : ℕ) → n ≢ x → w n ≡ v n) → Flipped (v x) (w x) before after (fed_by feeds x) → IsCounted net own w after
   turned v w before after x is len same t = record {
     size = len ∙ is.size;
     small = is.small;
@@ -107,15 +107,12 @@ module _ (net : Net) (own : ℕ → ℕ) (rows : List ValveFeeds) (edges : List 
 pub is_row : (rows : List ValveFeeds) (x : ℕ) (row : ValveFeeds) → x < length rows → row ≡ get_or rows x row → slice_get rows x ≡ Some row
 is_row rows x row b e = slice_get_read rows (length rows) x row refl b e
 
-pub is_fed : (rows : List ValveFeeds) (edges given : List ℕ) (x : ℕ) (row : ValveFeeds) → x < length rows → row ≡ get_or rows x row → given ≡ edges → piece given (Some row) ≡ fed rows edges x
-is_fed rows edges given x row b e same = ap (λ l. piece l (Some row)) same ∙ ap (piece edges) (sym (is_row rows x row b e))
-
 -- every element is in the list
 pub all_in : (P : ℕ → Type 0) (xs : List ℕ) → ((y : ℕ) → Contains xs y → P y) → All P xs
 all_in P xs h k d b = h (get_or xs k d) (Contains-get_or xs k d b)
 
 -- the valves after one of them was worked out
-pub fits_after : (net : Net) (own : ℕ → ℕ) (valves : Valves) (vs0 vs1 : List Bool) (cs0 cs1 given : List ℕ) (x : ℕ) → ValvesStandFor net own valves → vs0 ≡ valves.values.items → cs0 ≡ valves.counts.items → length vs1 ≡ length vs0 → length cs1 ≡ length cs0 → given ≡ fed valves.rows.items valves.edges.items x → ((n : ℕ) → n ≢ x → value_in vs1 n ≡ value_in vs0 n) → Flipped (value_in vs0 x) (value_in vs1 x) cs0 cs1 given → ValvesStandFor net own (record valves { values = with_items valves.values vs1; counts = with_items valves.counts cs1 })
+pub fits_after : (net : Net) (own : ℕ → ℕ) (valves : Valves) (vs0 vs1 : List Bool) (cs0 cs1 given : List ℕ) (x : ℕ) → ValvesStandFor net own valves → vs0 ≡ valves.values.items → cs0 ≡ valves.counts.items → length vs1 ≡ length vs0 → length cs1 ≡ length cs0 → given ≡ fed_by valves.feeds x → ((n : ℕ) → n ≢ x → value_in vs1 n ≡ value_in vs0 n) → Flipped (value_in vs0 x) (value_in vs1 x) cs0 cs1 given → ValvesStandFor net own (record valves { values = with_items valves.values vs1; counts = with_items valves.counts cs1 })
 fits_after net own valves vs0 vs1 cs0 cs1 given x fits ev ec lv lc eg same t =
     let lv' : length vs1 ≡ valves.values.len = lv ∙ ap length ev ∙ sym valves.values.ok.0 in
     let lc' : length cs1 ≡ valves.counts.len = lc ∙ ap length ec ∙ sym valves.counts.ok.0 in
@@ -152,12 +149,33 @@ same_after valves vs0 vs1 x ev lv same n ne =
     ap (λ l. value_in l n) vs ∙ same n ne ∙ ap (λ l. value_in l n) ev
 
 -- other places for the list and the marks
-pub relisted : (net : Net) (own : ℕ → ℕ) (s t : Valves) → t.rows ≡ s.rows → t.edges ≡ s.edges → t.values ≡ s.values → t.counts ≡ s.counts → t.owns ≡ s.owns → length t.marks.items ≡ length s.marks.items → vec_capacity t.cone ≡ vec_capacity s.cone → ValvesStandFor net own s → ValvesStandFor net own t
+pub relisted : (net : Net) (own : ℕ → ℕ) (s t : Valves) → t.rows ≡ s.rows → t.feeds ≡ s.feeds → t.values ≡ s.values → t.counts ≡ s.counts → t.owns ≡ s.owns → length t.marks.items ≡ length s.marks.items → vec_capacity t.cone ≡ vec_capacity s.cone → ValvesStandFor net own s → ValvesStandFor net own t
 relisted net own s t r e v k o m c f = record {
   laid = rw (r, e) f.laid;
   values = rw v f.values;
   counted = rw (v, k) f.counted;
   owned = rw o f.owned;
   marks = m ∙ f.marks;
+  room = let h = f.room in omega arith;
+}
+
+-- the same valves with more room
+pub moved : (net : Net) (own : ℕ → ℕ) (s t : Valves) → t.rows.items ≡ s.rows.items → t.feeds.fed ≡ s.feeds.fed
+    → t.values.items ≡ s.values.items → t.counts.items ≡ s.counts.items → t.owns.items ≡ s.owns.items → t.marks.items ≡ s.marks.items
+    → vec_capacity s.cone ≤ vec_capacity t.cone → ValvesStandFor net own s → ValvesStandFor net own t
+moved net own s t r e v k o m c f = record {
+  laid = record {
+    size = ap length r ∙ f.laid.size;
+    valves = ap length e ∙ f.laid.valves;
+    each_row = λ n row w. f.laid.each_row n row (ap (λ l. slice_get l n) (sym r) ∙ w);
+    reversed = λ x y b. ap (λ (l : List (List ℕ)). times y (slice_index_or l x [])) e ∙ f.laid.reversed x y b;
+    within = λ x y i. f.laid.within x y (subst (λ (l : List (List ℕ)). Contains (slice_index_or l x []) y) e i);
+    ends = f.laid.ends;
+  };
+  values = ap length v ∙ f.values;
+  counted = subst (λ l. IsCounted net own (value_in t.values.items) l) (sym k)
+      (subst (λ l. IsCounted net own (value_in l) s.counts.items) (sym v) f.counted);
+  owned = subst (IsOwned net own) (sym o) f.owned;
+  marks = ap length m ∙ f.marks;
   room = let h = f.room in omega arith;
 }

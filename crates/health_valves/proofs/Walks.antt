@@ -1,12 +1,11 @@
 -- Walks along feeds, depth first.
 use Rattle.std.proofs.Common.{◌≡◌, ◌<◌, ◌≤◌, ◌+◌, ◌-◌, ℕ, zero, suc, Bool, true, false, List, [], ◌∷◌, ◌++◌, length, set, get_or-set_other, sub-one, arith, refl, ap, sym, ◌∙◌, ◌⊎◌, inl, inr}
-use Rattle.std.specs.Prelude.{if◌then◌else◌, reverse, slice_get, Option, Some, None}
+use Rattle.std.specs.Prelude.{if◌then◌else◌, reverse, slice_index_or}
 use Rattle.std.proofs.lemmas.List.{reverse-append}
 use Rattle.std.specs.List.{Contains}
 use Rattle.std.proofs.lemmas.Bool.{cases_eq, false≢true}
-use Rattle.std.proofs.lemmas.Option.{slice_get_within}
 use Rattle.health_valves.proofs.Members.{in_head, in_tail, in_none, in_cases}
-use Rattle.health_valves.specs.Valves.{Net, IsLaid, Feeds, FedBy, fed, piece, value_in}
+use Rattle.health_valves.specs.Valves.{Net, IsLaid, Feeds, FedBy, BothWays, fed_by, value_in}
 use Rattle.health_valves.specs.Walk.{Leads, IsAbove, InCone, FeedersFirst, IsRanked, PathsEnd, IsShallow}
 use Rattle.health_valves.specs.Listed.{IsListed}
 use Rattle.health_valves.specs.declared.valves.ValveFeeds.{ValveFeeds}
@@ -93,44 +92,45 @@ pub all_above : (feeds : ℕ → ℕ → Type 0) (walk : List ℕ) → FeedersFi
 all_above feeds walk h zero x y i l = rw l i
 all_above feeds walk h (suc k) x y i l = all_above feeds walk h k l.0 y (closed feeds walk x l.0 h i l.1) l.2
 
-module _ (net : Net) (rows : List ValveFeeds) (edges : List ℕ) (laid : IsLaid net rows edges) where
+module _ (net : Net) (rows : List ValveFeeds) (feeds : BothWays) (laid : IsLaid net rows feeds) where
   -- what x feeds is in its list
-  pub lists : (x y : ℕ) → y < net.size → Feeds net x y → FedBy rows edges x y
-  lists x y b i = let t = in_times x (net.condition y).feeders i in let r = laid.reversed x y b in times_in y (fed rows edges x) (omega arith)
+  pub lists : (x y : ℕ) → y < net.size → Feeds net x y → FedBy feeds x y
+  lists x y b i = let t = in_times x (net.condition y).feeders i in let r = laid.reversed x y b in times_in y (fed_by feeds x) (omega arith)
 
   -- what is in its list it feeds
-  pub listed_feeds : (x y : ℕ) → FedBy rows edges x y → Feeds net x y
-  listed_feeds x y i = let t = in_times y (fed rows edges x) i in let r = laid.reversed x y (laid.within x y i) in times_in x (net.condition y).feeders (omega arith)
+  pub listed_feeds : (x y : ℕ) → FedBy feeds x y → Feeds net x y
+  listed_feeds x y i = let t = in_times y (fed_by feeds x) i in let r = laid.reversed x y (laid.within x y i) in times_in x (net.condition y).feeders (omega arith)
 
   -- a path along the edges is one in the net
-  pub leads_net : (k x y : ℕ) → Leads (FedBy rows edges) k x y → Leads (Feeds net) k x y
+  pub leads_net : (k x y : ℕ) → Leads (FedBy feeds) k x y → Leads (Feeds net) k x y
   leads_net zero x y l = l
   leads_net (suc k) x y l = (l.0, listed_feeds x l.0 l.1, leads_net k l.0 y l.2)
 
-  pub edges_end : (n : ℕ) → PathsEnd (Feeds net) n → PathsEnd (FedBy rows edges) n
+  pub edges_end : (n : ℕ) → PathsEnd (Feeds net) n → PathsEnd (FedBy feeds) n
   unfolding PathsEnd
   edges_end n h = λ x y l. h x y (leads_net n x y l)
 
   -- a valve that feeds one has a row
-  there : (x y : ℕ) → FedBy rows edges x y → x < net.size
-  there x y i = let size = laid.size in let b = has_row (slice_get rows x) refl i in omega arith
+  there : (x y : ℕ) → FedBy feeds x y → x < net.size
+  there x y i = let size = laid.valves in let b = has_list feeds.fed x i in omega arith
     where
-      has_row : (o : Option ValveFeeds) → slice_get rows x ≡ o → Contains (piece edges o) y → x < length rows
-      has_row None e i = absurd (in_none y i)
-      has_row (Some row) e i = slice_get_within rows x row e
+      has_list : (ls : List (List ℕ)) (o : ℕ) → Contains (slice_index_or ls o []) y → o < length ls
+      has_list [] o w = absurd (in_none y w)
+      has_list (l ∷ ls) zero w = omega arith
+      has_list (l ∷ ls) (suc o) w = let r = has_list ls o w in omega arith
 
   -- and the other way
-  pub leads_edges : (k x y : ℕ) → y < net.size → Leads (Feeds net) k x y → (x < net.size) × Leads (FedBy rows edges) k x y
+  pub leads_edges : (k x y : ℕ) → y < net.size → Leads (Feeds net) k x y → (x < net.size) × Leads (FedBy feeds) k x y
   leads_edges zero x y b l = (rw (sym l) b, l)
   leads_edges (suc k) x y b l =
       let r = leads_edges k l.0 y b l.2 in
       let i = lists x l.0 r.0 l.1 in
       (there x l.0 i, (l.0, i, r.1))
 
-  pub cone_net : (starts : List ℕ) (y : ℕ) → InCone (FedBy rows edges) starts y → InCone (Feeds net) starts y
+  pub cone_net : (starts : List ℕ) (y : ℕ) → InCone (FedBy feeds) starts y → InCone (Feeds net) starts y
   cone_net starts y c = (c.0, c.1, (c.2.0, leads_net c.2.0 c.0 y c.2.1))
 
-  pub cone_edges : (starts : List ℕ) (y : ℕ) → y < net.size → InCone (Feeds net) starts y → InCone (FedBy rows edges) starts y
+  pub cone_edges : (starts : List ℕ) (y : ℕ) → y < net.size → InCone (Feeds net) starts y → InCone (FedBy feeds) starts y
   cone_edges starts y b c = (c.0, c.1, (c.2.0, (leads_edges c.2.0 c.0 y b c.2.1).1))
 
 -- before the walk nothing is listed

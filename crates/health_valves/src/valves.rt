@@ -3,12 +3,11 @@
 
 ghost use Rattle.std.specs.Prelude.{◌≡◌, ◌≢◌, ◌≤◌, ◌<◌, ◌+◌, ◌^◌, ◌↔◌, ◌∷◌, [], All, IsTrue};
 ghost use Rattle.std.specs.Prelude.{List, false, if◌then◌else◌, length, slice_get, slice_index, true, ℕ};
-ghost use Rattle.std.specs.Prelude.{IsOk, OnOk};
-ghost use Rattle.std.specs.List.Sorted.{IsNonDecreasingBy, IsPermutation};
+ghost use Rattle.std.specs.Prelude.{Contains, IsOk, OnOk};
+ghost use Rattle.std.specs.List.Sorted.{IsPermutation};
 ghost use Rattle.health_valves.specs.Laying.{HasRoomFor};
 ghost use Rattle.health_valves.specs.Blueprint.{IsDrawn, Drawn, net_in, no_blueprint, own_in};
 ghost use Rattle.health_valves.specs.Walk.{PathsEnd};
-ghost use Rattle.health_valves.specs.declared.blueprint.Feeding.{Feeding};
 ghost use Rattle.health_valves.specs.Valves.{Feeds, ValvesStandFor, IsReady, MeetsEquation, Net, count};
 ghost use Rattle.health_valves.specs.Valves.{equation};
 ghost use Rattle.health_valves.specs.Valves.{size_of, value_in, value_of, with_need, with_own};
@@ -17,22 +16,21 @@ ghost use Rattle.health_valves.specs.Pass.{MeetBehind, MeetOutside, FlipsOnly, w
 
 use crate::blueprint::Blueprint;
 use crate::cone::{list_all, list_cone};
-use crate::laying::{lay_counts, lay_edges, lay_none, lay_rows};
-use crate::room::make_room;
+use crate::laying::{lay_counts, lay_links, lay_none, lay_rows, lay_valves};
+use crate::room::{make_feeds, make_room};
 use crate::steps::Steps;
-use crate::writes::{fed_by, is_open, work_out};
+use crate::writes::{is_open, work_out};
 use octets::OutOfMemory;
 use std::alloc::Global;
 use std::marker::Brand;
 use std::sync::ledger::{Blank, Ledger};
+use valve_feeds::{FedWalk, FeedLists};
 
-/// What stays of a valve: how many feeders open it, and where the valves that it feeds are listed.
+/// What stays of a valve: how many feeders open it, or shut it.
 #[derive(Clone, Copy, Debug, PartialEq, Eq)]
 pub struct ValveFeeds {
     pub(crate) need: u32,
     pub(crate) inverted: bool,
-    pub(crate) first: u32,
-    pub(crate) end: u32,
 }
 
 /// Valves over valves.
@@ -40,7 +38,7 @@ pub struct ValveFeeds {
 pub struct Valves {
     rows: Vec<ValveFeeds>,
     /// Which valves each valve feeds.
-    edges: Vec<u32>,
+    feeds: FeedLists,
     values: Vec<bool>,
     /// How many feeders of each valve are open, and what is counted from outside.
     counts: Vec<u32>,
@@ -60,7 +58,7 @@ impl Valves {
     {
         Valves {
             rows: Vec::new(alloc),
-            edges: Vec::new(alloc),
+            feeds: FeedLists::new(alloc),
             values: Vec::new(alloc),
             counts: Vec::new(alloc),
             owns: Vec::new(alloc),
@@ -83,7 +81,7 @@ impl Valves {
         let Ok(()) = make_room(&mut self.rows, valves) else {
             return Err(OutOfMemory);
         };
-        let Ok(()) = make_room(&mut self.edges, links) else {
+        let Ok(()) = make_feeds(&mut self.feeds, valves, links) else {
             return Err(OutOfMemory);
         };
         let Ok(()) = make_room(&mut self.values, valves) else {
@@ -123,10 +121,9 @@ impl Valves {
         self.settle_uncounted::<Brand>(Blank::new(1));
     }
 
-    /// Sets up the valves of a blueprint whose links stand by their feeders, none of them open.
+    /// Sets up the valves of a blueprint, none of them open.
     fn set_up(&mut self, blueprint: &Blueprint)
         requires planned { IsDrawn blueprint.now }
-        requires sorted { IsNonDecreasingBy (λ (l : Feeding). l.feeder) blueprint.now.links }
         requires room { HasRoomFor self.old (length blueprint.now.triggers) (length blueprint.now.links) }
 
         // They are those of each blueprint with these links in some order.
@@ -139,9 +136,10 @@ impl Valves {
         ensures kept { (n m : ℕ) → HasRoomFor self.old n m → HasRoomFor self.new n m }
     {
         self.rows.clear();
-        lay_rows(&mut self.rows, blueprint.triggers(), blueprint.links());
-        self.edges.clear();
-        lay_edges(&mut self.edges, blueprint.links());
+        lay_rows(&mut self.rows, blueprint.triggers());
+        self.feeds.clear();
+        lay_valves(&mut self.feeds, blueprint.len());
+        lay_links(&mut self.feeds, blueprint.links());
         self.counts.clear();
         lay_counts(&mut self.counts, blueprint.triggers());
         self.owns.clear();
@@ -196,7 +194,7 @@ impl Valves {
         steps.tick();
         let at = node as usize;
         let row = self.rows[at];
-        let fed = fed_by(&self.edges, row);
+        let fed = self.feeds.fed(node);
         let values = self.values.as_mut_slice();
         let counts = self.counts.as_mut_slice();
         work_out(values, counts, at, row.need, row.inverted, fed)
@@ -263,13 +261,7 @@ impl Valves {
             → CostsCone net starts.now steps.old steps.new }
         ensures room { (n m : ℕ) → HasRoomFor self.old n m → HasRoomFor self.new n m }
     {
-        list_cone(
-            &self.rows,
-            &self.edges,
-            &mut self.cone,
-            &mut self.marks,
-            starts,
-        );
+        list_cone(&self.feeds, &mut self.cone, &mut self.marks, starts);
         self.pass(steps);
     }
 
@@ -285,7 +277,7 @@ impl Valves {
         ensures cost { steps.new ≤ steps.old + size_of self.old }
         ensures room { (n m : ℕ) → HasRoomFor self.old n m → HasRoomFor self.new n m }
     {
-        list_all(&self.rows, &self.edges, &mut self.cone, &mut self.marks);
+        list_all(&self.feeds, &mut self.cone, &mut self.marks);
         self.pass(steps);
     }
 
@@ -324,10 +316,10 @@ impl Valves {
         ensures { (net : Net) (own : ℕ → ℕ) → ValvesStandFor net own self.now
             → IsTrue result ↔ Feeds net feeder valve }
     {
-        if feeder >= self.rows.len() {
+        if feeder >= self.feeds.len() {
             return false;
         }
-        fed_by(&self.edges, self.rows[feeder]).contains(&valve)
+        is_fed(self.feeds.fed(feeder as u32), valve)
     }
 
     /// How many valves there are.
@@ -431,13 +423,7 @@ impl Valves {
         ensures size { size_of self.new ≡ size_of self.old }
         ensures room { (n m : ℕ) → HasRoomFor self.old n m → HasRoomFor self.new n m }
     {
-        let row = self.rows[valve as usize];
-        self.rows[valve as usize] = ValveFeeds {
-            need,
-            inverted,
-            first: row.first,
-            end: row.end,
-        };
+        self.rows[valve as usize] = ValveFeeds { need, inverted };
     }
 
     /// Takes what is counted from outside at a valve, at most 2^31, and works out what stands above it where
@@ -489,4 +475,16 @@ fn value_at(values: &[bool], valve: usize) -> bool
     ensures { result ≡ value_in values.now valve }
 {
     values[valve]
+}
+
+/// Whether a valve is one of those that a walk has left.
+fn is_fed(fed: FedWalk<'_>, valve: u32) -> bool
+    ensures { IsTrue result ↔ Contains fed.entry valve }
+{
+    for other in fed {
+        if other == valve {
+            return true;
+        }
+    }
+    false
 }

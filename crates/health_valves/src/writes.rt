@@ -1,11 +1,11 @@
 //! Valves worked out one by one, and counts kept with the values that turn.
 
-ghost use Rattle.std.specs.Prelude.{◌≡◌, ◌≢◌, ◌≤◌, ◌<◌, ◌+◌, ◌^◌, ◌↔◌, All, IsTrue, List, Some};
+ghost use Rattle.std.specs.Prelude.{◌≡◌, ◌≢◌, ◌≤◌, ◌<◌, ◌+◌, ◌^◌, ◌↔◌, All, IsTrue, List};
 ghost use Rattle.std.specs.Prelude.{length, nat_le, slice_index, ℕ};
 ghost use Rattle.calculated_health.specs.Status.{swapped_if};
-ghost use Rattle.health_valves.specs.Valves.{times, piece, value_in, CountsFit, Flipped};
+ghost use Rattle.health_valves.specs.Valves.{times, value_in, CountsFit, Flipped};
 
-use crate::valves::ValveFeeds;
+use valve_feeds::FedWalk;
 
 /// Whether a valve is open at this count.
 pub fn is_open(need: u32, inverted: bool, count: u32) -> bool
@@ -18,34 +18,25 @@ pub fn is_open(need: u32, inverted: bool, count: u32) -> bool
     }
 }
 
-/// The valves that a valve of this row feeds.
-pub fn fed_by(edges: &[u32], row: ValveFeeds) -> &[u32]
-    requires first { row.first ≤ row.end }
-    requires end { row.end ≤ length edges.now }
-    ensures { result.now ≡ piece edges.now (Some row) }
-{
-    &edges[row.first as usize..row.end as usize]
-}
-
 /// One more at each place that is listed.
-pub fn add_one(counts: &mut [u32], places: &[u32])
-    requires within { All (λ y. y < length counts.old) places.now }
-    requires small { (y : ℕ) → slice_index counts.old y + times y places.now < 2 ^ 32 }
-    ensures { (y : ℕ) → slice_index counts.new y ≡ slice_index counts.old y + times y places.now }
+pub fn add_one(counts: &mut [u32], places: FedWalk<'_>)
+    requires within { All (λ y. y < length counts.old) places }
+    requires small { (y : ℕ) → slice_index counts.old y + times y places < 2 ^ 32 }
+    ensures { (y : ℕ) → slice_index counts.new y ≡ slice_index counts.old y + times y places.entry }
 {
     for place in places {
-        counts[*place as usize] += 1;
+        counts[place as usize] += 1;
     }
 }
 
 /// One fewer at each place that is listed.
-pub fn take_one(counts: &mut [u32], places: &[u32])
-    requires within { All (λ y. y < length counts.old) places.now }
-    requires enough { (y : ℕ) → times y places.now ≤ slice_index counts.old y }
-    ensures { (y : ℕ) → slice_index counts.new y + times y places.now ≡ slice_index counts.old y }
+pub fn take_one(counts: &mut [u32], places: FedWalk<'_>)
+    requires within { All (λ y. y < length counts.old) places }
+    requires enough { (y : ℕ) → times y places ≤ slice_index counts.old y }
+    ensures { (y : ℕ) → slice_index counts.new y + times y places.entry ≡ slice_index counts.old y }
 {
     for place in places {
-        counts[*place as usize] -= 1;
+        counts[place as usize] -= 1;
     }
 }
 
@@ -57,16 +48,16 @@ pub fn work_out(
     at: usize,
     need: u32,
     inverted: bool,
-    fed: &[u32],
+    fed: FedWalk<'_>,
 ) -> bool
     requires at_value { at < length values.old }
     requires at_count { at < length counts.old }
-    requires within { All (λ y. y < length counts.old) fed.now }
-    requires room { CountsFit (value_in values.old at) counts.old fed.now }
+    requires within { All (λ y. y < length counts.old) fed }
+    requires room { CountsFit (value_in values.old at) counts.old fed }
     ensures value { value_in values.new at
         ≡ swapped_if inverted (nat_le need (slice_index counts.old at)) }
     ensures others { (n : ℕ) → n ≢ at → value_in values.new n ≡ value_in values.old n }
-    ensures counts { Flipped (value_in values.old at) (value_in values.new at) counts.old counts.new fed.now }
+    ensures counts { Flipped (value_in values.old at) (value_in values.new at) counts.old counts.new fed.entry }
     ensures changed { IsTrue result ↔ (value_in values.new at ≢ value_in values.old at) }
 {
     let now = is_open(need, inverted, counts[at]);

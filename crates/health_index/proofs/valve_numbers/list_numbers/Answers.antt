@@ -1,6 +1,6 @@
 use Rattle.std.proofs.Common.{◌∷◌, [], length, length-append, arith, ap, refl, sym, ◌∙◌, inl, inr}
 use Rattle.std.proofs.lemmas.Option.{slice_get_within}
-use Rattle.health_valves.proofs.Runs.{in_more}
+use Rattle.health_planning.proofs.Lists.{in_more}
 use Rattle.health_index.proofs.valve_numbers.list_numbers.Goals as goal
 
 pub loop-place-init : goal.loop-place-init

@@ -3,7 +3,7 @@ use Rattle.std.specs.Prelude.{is_some, slice_get}
 use Rattle.std.proofs.lemmas.Option.{slice_get_read, slice_get_within}
 use mathlib.Core.Path.{subst}
 use Rattle.check_model.specs.declared.checks.Check.{Check}
-use Rattle.health_valves.proofs.Runs.{in_more}
+use Rattle.health_planning.proofs.Lists.{in_more}
 use Rattle.health_planning.specs.Wired.{StandsAt}
 use Rattle.health_planning.proofs.building.list_seen.Goals as goal
 

@@ -19,12 +19,12 @@ loop-valve-init c =
       size = refl;
       room = refl;
       marks_room = refl;
-      listed = none_listed (FedBy c.args.rows.now c.args.edges.now) c.args.cone.now.items c.args.marks.now.items c.requires.empty c.requires.unmarked;
+      listed = none_listed (FedBy c.args.feeds.now) c.args.cone.now.items c.args.marks.now.items c.requires.empty c.requires.unmarked;
       all = λ y l. absurd (omega arith);
     }
 
 pub visit-requires-clause-shallow : goal.visit-requires-clause-shallow
-visit-requires-clause-shallow c = shallow (FedBy c.args.rows.now c.args.edges.now) 64 _ c.requires.ends
+visit-requires-clause-shallow c = shallow (FedBy c.args.feeds.now) 64 _ c.requires.ends
 
 pub loop-valve-preserved : goal.loop-valve-preserved
 loop-valve-preserved c =
@@ -53,4 +53,4 @@ returns-clause-within c =
     let i = c.loop-valve.invariant in
     let now = i.size in
     let size = c.requires.size in
-    all_in (λ y. y < length c.args.rows.now) (reverse c.loop-valve.cone.items) (λ y k. let b = marked_within c.loop-valve.marks.items y (i.listed.marked y k) in omega arith)
+    all_in (λ y. y < length c.args.feeds.now.fed) (reverse c.loop-valve.cone.items) (λ y k. let b = marked_within c.loop-valve.marks.items y (i.listed.marked y k) in omega arith)

@@ -12,6 +12,6 @@ invariant-loop-valve l = record {
   size : length l.marks.items ≡ length l.fn.marks.items;
   room : vec_capacity l.cone ≡ vec_capacity l.fn.cone;
   marks_room : vec_capacity l.marks ≡ vec_capacity l.fn.marks;
-  listed : IsListed (FedBy l.rows l.edges) (reverse l.cone.items) l.marks.items;
+  listed : IsListed (FedBy l.feeds) (reverse l.cone.items) l.marks.items;
   all : (y : ℕ) → y < l.valve → Contains (reverse l.cone.items) y;
 }

@@ -1,14 +1,10 @@
 use Rattle.std.proofs.Common.{◌<◌, length, arith}
 use Rattle.std.specs.Prelude.{reverse}
-use Rattle.std.specs.List.{Contains}
 use Rattle.health_valves.specs.Valves.{FedBy}
 use Rattle.health_valves.proofs.Marks.{none_many, trues_few, marked_within}
 use Rattle.health_valves.proofs.Turns.{all_in}
-use Rattle.health_valves.proofs.Walks.{shallow, all_above, from_none}
+use Rattle.health_valves.proofs.Walks.{all_above, from_none}
 use Rattle.health_valves.proofs.cone.list_cone.Goals as goal
-
-pub walk-requires-clause-shallow : goal.walk-requires-clause-shallow
-walk-requires-clause-shallow c = shallow (FedBy c.args.rows.now c.args.edges.now) 64 (Contains c.args.starts.now) c.requires.ends
 
 pub walk-requires-clause-fills : goal.walk-requires-clause-fills
 walk-requires-clause-fills c =
@@ -22,7 +18,7 @@ walk-requires-clause-fills c =
 pub returns-clause-walk : goal.returns-clause-walk
 returns-clause-walk c =
     let w = c.walk.ensures in
-    let f = FedBy c.args.rows.now c.args.edges.now in
+    let f = FedBy c.args.feeds.now in
     record {
       members = λ y. (
         λ i. from_none c.args.cone.now.items y _ c.requires.empty (w.only y i),
@@ -44,4 +40,4 @@ returns-clause-within c =
     let w = c.walk.ensures in
     let now = w.size in
     let size = c.requires.size in
-    all_in (λ y. y < length c.args.rows.now) (reverse c.walk.new.cone.items) (λ y i. let b = marked_within c.walk.new.marks.items y (w.listed.marked y i) in omega arith)
+    all_in (λ y. y < length c.args.feeds.now.fed) (reverse c.walk.new.cone.items) (λ y i. let b = marked_within c.walk.new.marks.items y (w.listed.marked y i) in omega arith)

@@ -1,14 +1,16 @@
-use Rattle.std.proofs.Common.{length-set, ◌∙◌, refl, arith}
-use Rattle.health_valves.proofs.Times.{up, times_nil}
+use Rattle.std.proofs.Common.{◌<◌, ◌+◌, ◌∷◌, length, get_or, length-set, ◌∙◌, sym, ap, refl, arith}
+use Rattle.std.proofs.lemmas.List.Elements.{All-head, All-tail}
+use Rattle.health_valves.specs.Valves.{times}
+use Rattle.health_valves.proofs.Times.{up}
 use Rattle.health_valves.proofs.writes.add_one.Goals as goal
 
 pub loop-place-preserved : goal.loop-place-preserved
 loop-place-preserved c =
-    let b = c.requires.within c.loop-place.place-index 0 c.loop-place-test.true in
+    let i = c.loop-place.invariant in
+    let b = All-head (λ y. y < length c.loop-place.counts) c.in-Some.place c.next.new.self (rw c.in-Some.ensures.steps at i.within) in
     record {
-      size = length-set _ _ _ ∙ c.loop-place.invariant.size;
-      each = λ y. up _ _ _ _ _ y c.loop-place-test.true refl (omega arith) refl ∙ c.loop-place.invariant.each y;
+      size = length-set _ _ _ ∙ i.size;
+      within = λ k d l. rw length-set (All-tail (λ y. y < length c.loop-place.counts) c.in-Some.place c.next.new.self (rw c.in-Some.ensures.steps at i.within) k d l);
+      each = λ y. up c.loop-place.counts (c.in-Some.place ∷ c.next.new.self) 0 c.in-Some.place _ y (omega arith) refl b refl
+          ∙ ap (λ l. get_or c.loop-place.counts y 0 + times y l) (sym c.in-Some.ensures.steps) ∙ i.each y;
     }
-
-pub returns : goal.returns
-returns c y = let e = c.loop-place.invariant.each y in let z = times_nil y c.args.places.now c.loop-place.place-index c.loop-place-test.false in omega (arith, e, z)

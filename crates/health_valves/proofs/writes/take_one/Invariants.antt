@@ -1,9 +1,11 @@
-use Rattle.std.proofs.Common.{◌≡◌, ◌+◌, ℕ, length, get_or, drop}
+use Rattle.std.proofs.Common.{◌≡◌, ◌<◌, ◌+◌, ℕ, length, get_or}
+use Rattle.std.specs.Prelude.{All}
 use Rattle.health_valves.specs.Valves.{times}
 use Rattle.health_valves.proofs.writes.take_one.Given as goal
 
 abbrev pub invariant-loop-place : goal.invariant-loop-place
 invariant-loop-place l = record {
   size : length l.counts ≡ length l.fn.counts;
-  each : (y : ℕ) → get_or l.counts y 0 + times y l.places ≡ get_or l.fn.counts y 0 + times y (drop l.place-index l.places);
+  within : All (λ y. y < length l.counts) l.place-iterator;
+  each : (y : ℕ) → get_or l.counts y 0 + times y l.fn.places ≡ get_or l.fn.counts y 0 + times y l.place-iterator;
 }

@@ -5,9 +5,10 @@ use Rattle.health_valves.specs.Valves.{Feeds, IsLaid}
 use Rattle.health_valves.specs.Blueprint.{net_in, no_blueprint}
 use Rattle.health_valves.proofs.valves.Valves.new.Goals as goal
 
-laid_nothing : IsLaid (net_in no_blueprint) [] []
+laid_nothing : IsLaid (net_in no_blueprint) [] (record { fed = []; feeders = []; room = 0; most = 0; valves_room = 0 })
 laid_nothing = record {
   size = refl;
+  valves = refl;
   each_row = λ n row at. let no : ⊥ = cc in absurd no;
   reversed = λ x y within. absurd (omega arith);
   within = λ x y fed. absurd (in_none y fed);
@@ -17,7 +18,7 @@ laid_nothing = record {
 
 pub returns-clause-fits : goal.returns-clause-fits
 returns-clause-fits c = record {
-  laid = rw (c.new.ensures.items, c.new-2.ensures.items) laid_nothing;
+  laid = rw (c.new.ensures.items, c.new-2.ensures) laid_nothing;
   values = ap length c.new-3.ensures.items;
   counted = record {
     size = ap length c.new-4.ensures.items;

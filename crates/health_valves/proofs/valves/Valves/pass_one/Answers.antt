@@ -35,13 +35,13 @@ returns-clause-mends g c net own f meet n b out =
     let rest = c.pop.new.self.items in
     let e = from_end s0.cone.items rest valve c.in-Some.ensures.items in
     let f1 = relisted net own s0 _ refl refl refl refl refl (length-set _ _ _) c.pop.ensures.capacity f in
-    let first : FeedersFirst (FedBy s0.rows.items s0.edges.items) (valve ∷ reverse rest) = rw e at c.requires.first in
+    let first : FeedersFirst (FedBy s0.feeds) (valve ∷ reverse rest) = rw e at c.requires.first in
     let gone = ap waiting c.eval_node.ensures.rest in
     let v = c.eval_node.ensures in
     elim (cases_eq n valve) [
       | inl same ↦ rw same (v.meets net own f1)
       | inr ne ↦ v.spares net own n f1 ne
-          (λ feeds. out (rw gone (first.0 n (lists net s0.rows.items s0.edges.items f.laid valve n b feeds))))
+          (λ feeds. out (rw gone (first.0 n (lists net s0.rows.items s0.feeds f.laid valve n b feeds))))
           (meet n b (λ i. elim (in_cases valve n (reverse rest) (rw e at i)) [ inl same ↦ ne (sym same) | inr j ↦ out (rw gone j) ]))
     ]
 
@@ -56,7 +56,8 @@ returns-clause-room g c n m h =
     let same = c.pop.ensures.capacity in
     c.eval_node.ensures.room n m (record {
       rows = h.rows;
-      edges = h.edges;
+      feeds = h.feeds;
+      lists = h.lists;
       values = h.values;
       counts = h.counts;
       owns = h.owns;

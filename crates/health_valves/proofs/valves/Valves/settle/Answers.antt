@@ -1,21 +1,41 @@
-use Rattle.std.proofs.Common.{◌≡◌, ◌<◌, ℕ, List, length, arith, ap, refl}
+use Rattle.std.proofs.Common.{◌<◌, length, arith, sym, refl, ◌∙◌}
 use Rattle.std.specs.Prelude.{reverse}
 use Rattle.std.proofs.lemmas.List.{length-reverse}
 use Rattle.std.proofs.lemmas.List.Elements.{All-contains}
-use Rattle.health_valves.specs.Valves.{FedBy}
-use Rattle.health_valves.specs.Walk.{IsConeOf}
-use Rattle.health_valves.specs.declared.valves.ValveFeeds.{ValveFeeds}
 use Rattle.health_valves.proofs.Turns.{relisted}
 use Rattle.health_valves.proofs.Walks.{edges_end, cone_net, cone_edges}
 use Rattle.health_valves.proofs.valves.Valves.settle.Goals as goal
 
-moved_walk : (r r2 : List ValveFeeds) (e e2 starts walk : List ℕ) → r ≡ r2 → e ≡ e2 → IsConeOf (FedBy r e) starts walk → IsConeOf (FedBy r2 e2) starts walk
-moved_walk r r2 e e2 starts walk er ee is = rw (er, ee) at is
-
 pub list_cone-requires-clause-ends : goal.list_cone-requires-clause-ends
 list_cone-requires-clause-ends g c =
     let laid = c.requires.ready.2.laid in
-    rw (c.deref.ensures.value, c.deref-2.ensures.value) (edges_end c.requires.ready.0 _ _ laid 64 laid.ends)
+    edges_end c.requires.ready.0 _ _ laid 64 laid.ends
+
+pub list_cone-requires-clause-starts : goal.list_cone-requires-clause-starts
+list_cone-requires-clause-starts g c k d below =
+    let laid = c.requires.ready.2.laid in
+    let size = laid.size in
+    let valves = laid.valves in
+    let b = c.requires.starts k d below in
+    omega arith
+
+pub list_cone-requires-clause-size : goal.list_cone-requires-clause-size
+list_cone-requires-clause-size g c = let f = c.requires.ready.2 in f.marks ∙ sym f.laid.valves
+
+pub list_cone-requires-clause-room : goal.list_cone-requires-clause-room
+list_cone-requires-clause-room g c =
+    let f = c.requires.ready.2 in
+    let valves = f.laid.valves in
+    let room = f.room in
+    omega arith
+
+pub pass-requires-clause-within : goal.pass-requires-clause-within
+pass-requires-clause-within g c k d below =
+    let laid = c.requires.ready.2.laid in
+    let size = laid.size in
+    let valves = laid.valves in
+    let b = c.list_cone.ensures.within k d below in
+    omega arith
 
 pub returns-clause-fits : goal.returns-clause-fits
 returns-clause-fits g c net own f = c.pass.ensures.fits net own (relisted net own c.args.self.now _ refl refl refl refl refl c.list_cone.ensures.size c.list_cone.ensures.room f)
@@ -23,19 +43,18 @@ returns-clause-fits g c net own f = c.pass.ensures.fits net own (relisted net ow
 pub returns-clause-mends : goal.returns-clause-mends
 returns-clause-mends g c net own f outside =
     let s = c.args.self.now in
-    let walk = moved_walk c.deref.result.now s.rows.items c.deref-2.result.now s.edges.items c.args.starts.now (reverse c.list_cone.new.cone.items) c.deref.ensures.value c.deref-2.ensures.value c.list_cone.ensures.walk in
+    let walk = c.list_cone.ensures.walk in
     c.pass.ensures.mends net own (relisted net own s _ refl refl refl refl refl c.list_cone.ensures.size c.list_cone.ensures.room f)
-    (λ n b out. outside n b (λ k. out ((walk.members n).1 (cone_edges net s.rows.items s.edges.items f.laid c.args.starts.now n b k))))
+    (λ n b out. outside n b (λ k. out ((walk.members n).1 (cone_edges net s.rows.items s.feeds f.laid c.args.starts.now n b k))))
 
 pub returns-clause-cost : goal.returns-clause-cost
 returns-clause-cost g c net own nodes f has =
     let s = c.args.self.now in
     let l = c.list_cone.ensures in
-    let rows = ap length c.deref.ensures.value in
-    let size = f.laid.size in
+    let size = f.laid.valves in
     let few = l.few nodes (λ y k.
-    let b = All-contains (λ n. n < length c.deref.result.now) _ y l.within ((l.walk.members y).1 k) in
-    has y (omega arith) (cone_net net s.rows.items s.edges.items f.laid c.args.starts.now y (rw (c.deref.ensures.value, c.deref-2.ensures.value) at k))) in
+    let b = All-contains (λ n. n < length c.args.self.now.feeds.fed) _ y l.within ((l.walk.members y).1 k) in
+    has y (omega arith) (cone_net net s.rows.items s.feeds f.laid c.args.starts.now y k)) in
     let cost = c.pass.ensures.cost in
     omega arith
 
@@ -43,18 +62,17 @@ pub returns-clause-cone : goal.returns-clause-cone
 returns-clause-cone g c net own f =
     let s = c.args.self.now in
     let l = c.list_cone.ensures in
-    let rows = ap length c.deref.ensures.value in
-    let size = f.laid.size in
+    let size = f.laid.valves in
     let long = length-reverse c.list_cone.new.cone.items in
     let cost = c.pass.ensures.cost in (
       reverse c.list_cone.new.cone.items,
       (
         record {
           once = l.walk.once;
-          within = λ y m. let b = All-contains (λ n. n < length c.deref.result.now) _ y l.within m in omega arith;
+          within = λ y m. let b = All-contains (λ n. n < length c.args.self.now.feeds.fed) _ y l.within m in omega arith;
           above = λ y m.
               let k = (l.walk.members y).0 m in
-              cone_net net s.rows.items s.edges.items f.laid c.args.starts.now y (rw (c.deref.ensures.value, c.deref-2.ensures.value) at k);
+              cone_net net s.rows.items s.feeds f.laid c.args.starts.now y k;
         },
         omega arith,
       ),
@@ -69,7 +87,8 @@ returns-clause-room g c n m h =
     let marks_same = l.marks_room in
     c.pass.ensures.room n m (record {
       rows = h.rows;
-      edges = h.edges;
+      feeds = h.feeds;
+      lists = h.lists;
       values = h.values;
       counts = h.counts;
       owns = h.owns;

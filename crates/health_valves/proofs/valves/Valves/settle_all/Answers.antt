@@ -1,4 +1,4 @@
-use Rattle.std.proofs.Common.{length, arith, ap, refl}
+use Rattle.std.proofs.Common.{arith, sym, refl, ◌∙◌}
 use Rattle.health_valves.proofs.Turns.{relisted}
 use Rattle.health_valves.proofs.Walks.{edges_end}
 use Rattle.health_valves.proofs.valves.Valves.settle_all.Goals as goal
@@ -6,15 +6,41 @@ use Rattle.health_valves.proofs.valves.Valves.settle_all.Goals as goal
 pub list_all-requires-clause-ends : goal.list_all-requires-clause-ends
 list_all-requires-clause-ends g c =
     let laid = c.requires.ready.2.laid in
-    rw (c.deref.ensures.value, c.deref-2.ensures.value) (edges_end c.requires.ready.0 _ _ laid 64 laid.ends)
+    edges_end c.requires.ready.0 _ _ laid 64 laid.ends
+
+pub list_all-requires-clause-size : goal.list_all-requires-clause-size
+list_all-requires-clause-size g c = let f = c.requires.ready.2 in f.marks ∙ sym f.laid.valves
+
+pub list_all-requires-clause-room : goal.list_all-requires-clause-room
+list_all-requires-clause-room g c =
+    let f = c.requires.ready.2 in
+    let valves = f.laid.valves in
+    let room = f.room in
+    omega arith
+
+pub pass-requires-clause-within : goal.pass-requires-clause-within
+pass-requires-clause-within g c k d below =
+    let laid = c.requires.ready.2.laid in
+    let size = laid.size in
+    let valves = laid.valves in
+    let b = c.list_all.ensures.within k d below in
+    omega arith
+
+pub returns-clause-cost : goal.returns-clause-cost
+returns-clause-cost g c =
+    let laid = c.requires.ready.2.laid in
+    let size = laid.size in
+    let valves = laid.valves in
+    let few = c.list_all.ensures.few in
+    let cost = c.pass.ensures.cost in
+    omega arith
 
 pub returns-clause-fits : goal.returns-clause-fits
 returns-clause-fits g c net own f = c.pass.ensures.fits net own (relisted net own c.args.self.now _ refl refl refl refl refl c.list_all.ensures.size c.list_all.ensures.room f)
 
 pub returns-clause-meet : goal.returns-clause-meet
 returns-clause-meet g c net own f =
-    let rows = ap length c.deref.ensures.value in
-    let size = f.laid.size in
+    let size = f.laid.valves in
     c.pass.ensures.mends net own (relisted net own c.args.self.now _ refl refl refl refl refl c.list_all.ensures.size c.list_all.ensures.room f)
     (λ n b out. absurd (out (c.list_all.ensures.all n (omega arith))))
 
@@ -27,7 +53,8 @@ returns-clause-room g c n m h =
     let marks_same = l.marks_room in
     c.pass.ensures.room n m (record {
       rows = h.rows;
-      edges = h.edges;
+      feeds = h.feeds;
+      lists = h.lists;
       values = h.values;
       counts = h.counts;
       owns = h.owns;
