@@ -54,7 +54,7 @@ module _ (valve need : ℕ) (inverted : Bool) (net : Net) where
   leads_same zero x y l = l
   leads_same (suc k) x y l = (l.0, feeds_same x l.0 l.1, leads_same k l.0 y l.2)
 
-  ends_same : (n : ℕ) → PathsEnd (Feeds net) n → PathsEnd (Feeds now) n
+  pub ends_same : (n : ℕ) → PathsEnd (Feeds net) n → PathsEnd (Feeds now) n
   unfolding PathsEnd
   ends_same n h = λ x y l. h x y (leads_same n x y l)
 
@@ -85,7 +85,6 @@ module _ (valve need : ℕ) (inverted : Bool) (net : Net) where
         ];
         reversed = λ x y b. rw (feeders_same y) (laid.reversed x y b);
         within = laid.within;
-        ends = ends_same 64 laid.ends;
       }
 
   pub counted_now : (own : ℕ → ℕ) (v : ℕ → Bool) (counts : List ℕ) → IsCounted net own v counts

@@ -61,8 +61,8 @@ pub laid : (blueprint given : Drawn) (rows : List ValveFeeds) (feeds : BothWays)
     → given.triggers ≡ blueprint.triggers → IsPermutation given.links blueprint.links
     → rows ≡ map row_of blueprint.triggers → length feeds.fed ≡ length blueprint.triggers
     → ((x y : ℕ) → times y (fed_by feeds x) ≡ times x (feeders_in blueprint.links y))
-    → PathsEnd (Feeds (net_in given)) 64 → IsLaid (net_in given) rows feeds
-laid blueprint given rows feeds drawn same moved are valves fed ends = record {
+    → IsLaid (net_in given) rows feeds
+laid blueprint given rows feeds drawn same moved are valves fed = record {
   size = ap length are ∙ length-map blueprint.triggers row_of ∙ sym (ap length same);
   valves = valves ∙ sym (ap length same);
   each_row = λ n row e. rw same (is_row blueprint.triggers n row (feeders_in given.links n) (ap (λ l. slice_get l n) (sym are) ∙ e));
@@ -74,7 +74,6 @@ laid blueprint given rows feeds drawn same moved are valves fed ends = record {
       (λ k link is. at_place (λ (l : Feeding). l.fed < length blueprint.triggers) blueprint.links drawn.to_within k link is)
       (omega arith) in
       rw same b;
-  ends = ends;
 }
 
 -- ---- counts where no valve is open

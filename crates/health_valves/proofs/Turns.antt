@@ -9,7 +9,7 @@ use Rattle.calculated_health.specs.Status.{swapped_if}
 use Rattle.health_valves.specs.Valves.{count}
 use Rattle.health_valves.proofs.Members.{in_head, in_tail}
 use Rattle.health_valves.proofs.Members.{count_same}
-use Rattle.health_valves.specs.Valves.{times, Net, ValvesStandFor, IsLaid, IsCounted, IsOwned, Feeds, CountsFit, Flipped, value_in, MeetsEquation, BothWays, fed_by}
+use Rattle.health_valves.specs.Valves.{times, Net, ValvesStandFor, IsLaid, HasEnds, IsCounted, IsOwned, Feeds, CountsFit, Flipped, value_in, MeetsEquation, BothWays, fed_by}
 use mathlib.Core.Path.{subst}
 use Rattle.std.specs.Vec.{with_items, vec_capacity}
 use Rattle.std.proofs.lemmas.List.{with_items_is}
@@ -93,13 +93,13 @@ module _ (net : Net) (own : ℕ → ℕ) (rows : List ValveFeeds) (feeds : BothW
   }
 
   -- no valve feeds itself
-  pub fed_by_others : (x : ℕ) → Feeds net x x → ⊥
-  fed_by_others x f = not_itself (Feeds net) 64 x laid.ends f
+  pub fed_by_others : HasEnds net → (x : ℕ) → Feeds net x x → ⊥
+  fed_by_others ends x f = not_itself (Feeds net) 64 x ends f
 
-  pub meets : (v w : ℕ → Bool) (x : ℕ) (row : ValveFeeds) (counts : List ℕ) → x < net.size → slice_get rows x ≡ Some row → IsCounted net own v counts → ((n : ℕ) → n ≢ x → w n ≡ v n) → w x ≡ swapped_if row.inverted (nat_le row.need (slice_index counts x)) → MeetsEquation net own w x
-  meets v w x row counts b at is same e =
+  pub meets : HasEnds net → (v w : ℕ → Bool) (x : ℕ) (row : ValveFeeds) (counts : List ℕ) → x < net.size → slice_get rows x ≡ Some row → IsCounted net own v counts → ((n : ℕ) → n ≢ x → w n ≡ v n) → w x ≡ swapped_if row.inverted (nat_le row.need (slice_index counts x)) → MeetsEquation net own w x
+  meets ends v w x row counts b at is same e =
       let r = laid.each_row x row at in
-      let c : count w (net.condition x).feeders ≡ count v (net.condition x).feeders = count_same _ _ _ (spared v w x same (net.condition x).feeders (fed_by_others x)) in
+      let c : count w (net.condition x).feeders ≡ count v (net.condition x).feeders = count_same _ _ _ (spared v w x same (net.condition x).feeders (fed_by_others ends x)) in
       let k : slice_index counts x ≡ own x + count w (net.condition x).feeders = is.each x b ∙ ap (λ m. own x + m) (sym c) in
       e ∙ rw (r.need, r.inverted, k) refl
 
@@ -129,13 +129,13 @@ fits_after net own valves vs0 vs1 cs0 cs1 given x fits ev ec lv lc eg same t =
       room = fits.room;
     }
 
-pub meets_after : (net : Net) (own : ℕ → ℕ) (valves : Valves) (vs0 vs1 : List Bool) (cs0 : List ℕ) (row : ValveFeeds) (x : ℕ) → x < length valves.rows.items → ValvesStandFor net own valves → vs0 ≡ valves.values.items → cs0 ≡ valves.counts.items → length vs1 ≡ length vs0 → row ≡ get_or valves.rows.items x row → ((n : ℕ) → n ≢ x → value_in vs1 n ≡ value_in vs0 n) → value_in vs1 x ≡ swapped_if row.inverted (nat_le row.need (slice_index cs0 x)) → MeetsEquation net own (value_in (with_items valves.values vs1).items) x
-meets_after net own valves vs0 vs1 cs0 row x b fits ev ec lv er same e =
+pub meets_after : (net : Net) → HasEnds net → (own : ℕ → ℕ) (valves : Valves) (vs0 vs1 : List Bool) (cs0 : List ℕ) (row : ValveFeeds) (x : ℕ) → x < length valves.rows.items → ValvesStandFor net own valves → vs0 ≡ valves.values.items → cs0 ≡ valves.counts.items → length vs1 ≡ length vs0 → row ≡ get_or valves.rows.items x row → ((n : ℕ) → n ≢ x → value_in vs1 n ≡ value_in vs0 n) → value_in vs1 x ≡ swapped_if row.inverted (nat_le row.need (slice_index cs0 x)) → MeetsEquation net own (value_in (with_items valves.values vs1).items) x
+meets_after net ends own valves vs0 vs1 cs0 row x b fits ev ec lv er same e =
     let vs = with_items_is valves.values vs1 (lv ∙ ap length ev ∙ sym valves.values.ok.0) in
     let same' = rw ev at same in
     let e' = rw ec at e in
     let size = fits.laid.size in
-    subst (λ l. MeetsEquation net own (value_in l) x) (sym vs) (meets net own _ _ fits.laid (value_in valves.values.items) (value_in vs1) x row valves.counts.items (omega arith) (is_row _ _ _ b er) fits.counted same' e')
+    subst (λ l. MeetsEquation net own (value_in l) x) (sym vs) (meets net own _ _ fits.laid ends (value_in valves.values.items) (value_in vs1) x row valves.counts.items (omega arith) (is_row _ _ _ b er) fits.counted same' e')
 
 -- a valve that isn't fed by x goes on meeting its equation when x turns
 pub unfed : (net : Net) (own : ℕ → ℕ) (v w : ℕ → Bool) (x n : ℕ) → ((m : ℕ) → m ≢ x → w m ≡ v m) → n ≢ x → (Feeds net x n → ⊥) → MeetsEquation net own v n → MeetsEquation net own w n
@@ -170,7 +170,6 @@ moved net own s t r e v k o m c f = record {
     each_row = λ n row w. f.laid.each_row n row (ap (λ l. slice_get l n) (sym r) ∙ w);
     reversed = λ x y b. ap (λ (l : List (List ℕ)). times y (slice_index_or l x [])) e ∙ f.laid.reversed x y b;
     within = λ x y i. f.laid.within x y (subst (λ (l : List (List ℕ)). Contains (slice_index_or l x []) y) e i);
-    ends = f.laid.ends;
   };
   values = ap length v ∙ f.values;
   counted = subst (λ l. IsCounted net own (value_in t.values.items) l) (sym k)

@@ -50,16 +50,16 @@ ranked_ends feeds rank bound is = λ x y l. let h = climbs feeds rank bound is b
 abbrev pub with_node : List ℕ → List Bool → ℕ → List ℕ
 with_node walk marks valve = if value_in marks valve then walk else valve ∷ walk
 
-more : (feeds : ℕ → ℕ → Type 0) (walk : List ℕ) (marks : List Bool) (valve : ℕ) (b : Bool) → value_in marks valve ≡ b → valve < length marks → IsListed feeds walk marks → ((y : ℕ) → feeds valve y → Contains walk y) → IsListed feeds (if b then walk else valve ∷ walk) (set marks valve true)
+more : (feeds : ℕ → ℕ → Type 0) (walk : List ℕ) (marks : List Bool) (valve : ℕ) (b : Bool) → value_in marks valve ≡ b → valve < length marks → IsListed feeds walk marks → (PathsEnd feeds 64 → (y : ℕ) → feeds valve y → Contains walk y) → IsListed feeds (if b then walk else valve ∷ walk) (set marks valve true)
 more feeds walk marks valve true e l is below = rw (set_again marks valve e) is
 more feeds walk marks valve false e l is below = record {
   listed = λ y m. elim (cases_eq y valve) [ inl same ↦ rw same (in_head valve walk) | inr ne ↦ in_tail valve y walk (is.listed y (sym (get_or-set_other marks valve y true false ne) ∙ m)) ];
   marked = λ y i. elim (in_cases valve y walk i) [ inl same ↦ rw (sym same) (mark_here marks valve l) | inr j ↦ mark_kept marks valve y l (is.marked y j) ];
   once = (λ i. false≢true (sym e ∙ is.marked valve i), is.once);
-  first = (below, is.first);
+  first = λ ends. (below ends, is.first ends);
 }
 
-pub listed_more : (feeds : ℕ → ℕ → Type 0) (walk : List ℕ) (marks : List Bool) (valve : ℕ) → valve < length marks → IsListed feeds walk marks → ((y : ℕ) → feeds valve y → Contains walk y) → IsListed feeds (with_node walk marks valve) (set marks valve true)
+pub listed_more : (feeds : ℕ → ℕ → Type 0) (walk : List ℕ) (marks : List Bool) (valve : ℕ) → valve < length marks → IsListed feeds walk marks → (PathsEnd feeds 64 → (y : ℕ) → feeds valve y → Contains walk y) → IsListed feeds (with_node walk marks valve) (set marks valve true)
 listed_more feeds walk marks valve = more feeds walk marks valve (value_in marks valve) refl
 
 kept : (walk : List ℕ) (valve y : ℕ) (b : Bool) → Contains walk y → Contains (if b then walk else valve ∷ walk) y
@@ -127,6 +127,11 @@ module _ (net : Net) (rows : List ValveFeeds) (feeds : BothWays) (laid : IsLaid 
       let i = lists x l.0 r.0 l.1 in
       (there x l.0 i, (l.0, i, r.1))
 
+  -- what stands above a valve is a valve
+  pub leads_within : (k x y : ℕ) → x < net.size → Leads (FedBy feeds) k x y → y < net.size
+  leads_within zero x y b l = rw l b
+  leads_within (suc k) x y b l = leads_within k l.0 y (laid.within x l.0 l.1) l.2
+
   pub cone_net : (starts : List ℕ) (y : ℕ) → InCone (FedBy feeds) starts y → InCone (Feeds net) starts y
   cone_net starts y c = (c.0, c.1, (c.2.0, leads_net c.2.0 c.0 y c.2.1))
 
@@ -147,5 +152,5 @@ none_listed feeds order marks e un = rw e (record {
   listed = λ y m. absurd (false≢true (sym (un y) ∙ m));
   marked = λ y i. absurd (in_none y i);
   once = tt;
-  first = tt;
+  first = λ ends. tt;
 })

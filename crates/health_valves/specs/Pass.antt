@@ -2,7 +2,7 @@
 use Rattle.std.specs.Prelude.{◌≡◌, ◌<◌, ◌+◌, ℕ, true, false, List, [], length, reverse}
 use Rattle.std.specs.List.{Contains}
 use Rattle.health_valves.specs.Valves.{Net, MeetsEquation, value_in, value_of, Feeds, FedBy}
-use Rattle.health_valves.specs.Walk.{EachOnce, InCone, FeedersFirst}
+use Rattle.health_valves.specs.Walk.{EachOnce, InCone, FeedersFirst, PathsEnd}
 use Rattle.health_valves.specs.declared.valves.Valves.{Valves}
 
 -- each valve meets its equation
@@ -23,9 +23,9 @@ abbrev pub MeetBehind : Net → (ℕ → ℕ) → Valves → Type 0
 MeetBehind net own valves = (n : ℕ) → n < net.size → (Contains (waiting valves) n → ⊥)
     → MeetsEquation net own (value_of valves) n
 
--- each valve that waits comes before all that it feeds, and these wait too
+-- Where paths end, each valve that waits comes before all that it feeds, and these wait too.
 abbrev pub IsInOrder : Valves → Type 0
-IsInOrder valves = FeedersFirst (FedBy valves.feeds) (waiting valves)
+IsInOrder valves = PathsEnd (FedBy valves.feeds) 64 → FeedersFirst (FedBy valves.feeds) (waiting valves)
 
 -- only waiting valves are marked
 abbrev pub HasMarked : Valves → Type 0

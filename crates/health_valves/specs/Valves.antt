@@ -33,6 +33,10 @@ MeetsEquation net own v n = v n ≡ equation net own v n
 abbrev pub Feeds : Net → ℕ → ℕ → Type 0
 Feeds net x y = Contains (net.condition y).feeders x
 
+-- No path of feeds has more valves: so each can be worked out before all that it feeds.
+abbrev pub HasEnds : Net → Type 0
+HasEnds net = PathsEnd (Feeds net) 64
+
 abbrev pub value_in : List Bool → ℕ → Bool
 value_in values n = slice_index_or values n false
 
@@ -66,7 +70,6 @@ pub record IsLaid (net : Net) (rows : List ValveFeeds) (feeds : BothWays) : Type
   pub reversed : (x y : ℕ) → y < net.size
       → times y (fed_by feeds x) ≡ times x (net.condition y).feeders
   pub within : (x y : ℕ) → Contains (fed_by feeds x) y → y < net.size
-  pub ends : PathsEnd (Feeds net) 64
 
 -- each count is that of the open feeders, with what is counted outside
 pub record IsCounted (net : Net) (own : ℕ → ℕ) (v : ℕ → Bool) (counts : List ℕ) : Type 0 where

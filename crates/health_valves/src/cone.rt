@@ -5,13 +5,13 @@ ghost use Rattle.std.specs.Prelude.{reverse, vec_len, slice_set, if◌then◌els
 ghost use Rattle.std.specs.Vec.{vec_capacity};
 ghost use Rattle.std.specs.List.{Contains};
 ghost use Rattle.health_valves.specs.Valves.{value_in, FedBy};
-ghost use Rattle.health_valves.specs.Walk.{IsAbove, InCone, FeedersFirst, IsConeOf, PathsEnd};
+ghost use Rattle.health_valves.specs.Walk.{EachOnce, IsAbove, InCone, FeedersFirst, IsConeOf, PathsEnd};
 ghost use Rattle.health_valves.specs.Walk.{IsShallow};
 ghost use Rattle.health_valves.specs.Listed.{Fills, IsListed};
 
 use valve_feeds::FeedLists;
 
-/// No path of feeds has more valves.
+/// No path of feeds has more valves; where one has, what is behind them isn't listed.
 const DEPTH: u8 = 64;
 
 /// Whether a valve is marked.
@@ -44,7 +44,8 @@ fn add(cone: &mut Vec<u32>, marks: &mut Vec<bool>, valve: u32)
 /// last. It takes no memory.
 fn visit(feeds: &FeedLists, cone: &mut Vec<u32>, marks: &mut Vec<bool>, valve: u32, depth: u8)
     requires valve { valve < length feeds.now.fed }
-    requires shallow { IsShallow (FedBy feeds.now) depth (FedBy feeds.now valve) }
+    requires shallow { PathsEnd (FedBy feeds.now) 64
+        → IsShallow (FedBy feeds.now) depth (FedBy feeds.now valve) }
     requires size { length marks.old.items ≡ length feeds.now.fed }
     requires fills { Fills cone.old marks.old }
     requires listed { IsListed (FedBy feeds.now) (reverse cone.old.items) marks.old.items }
@@ -65,6 +66,10 @@ fn visit(feeds: &FeedLists, cone: &mut Vec<u32>, marks: &mut Vec<bool>, valve: u
     if is_marked(marks, valve) {
         return;
     }
+    if depth == 0 {
+        add(cone, marks, valve);
+        return;
+    }
     for next in feeds.fed(valve) {
         visit(feeds, cone, marks, next, depth - 1);
     }
@@ -74,7 +79,6 @@ fn visit(feeds: &FeedLists, cone: &mut Vec<u32>, marks: &mut Vec<bool>, valve: u
 /// Lists the cone of some valves beside what is listed, each valve when all that it feeds is listed.
 /// It takes no memory.
 fn walk(feeds: &FeedLists, cone: &mut Vec<u32>, marks: &mut Vec<bool>, valves: &[u32])
-    requires ends { PathsEnd (FedBy feeds.now) 64 }
     requires valves { All (λ y. y < length feeds.now.fed) valves.now }
     requires size { length marks.old.items ≡ length feeds.now.fed }
     requires fills { Fills cone.old marks.old }
@@ -99,13 +103,16 @@ fn walk(feeds: &FeedLists, cone: &mut Vec<u32>, marks: &mut Vec<bool>, valves: &
 /// Lists the cone of some valves; taken from its end, each valve comes before all that it feeds. It
 /// takes no memory.
 pub fn list_cone(feeds: &FeedLists, cone: &mut Vec<u32>, marks: &mut Vec<bool>, starts: &[u32])
-    requires ends { PathsEnd (FedBy feeds.now) 64 }
     requires starts { All (λ y. y < length feeds.now.fed) starts.now }
     requires size { length marks.old.items ≡ length feeds.now.fed }
     requires room { length feeds.now.fed ≤ vec_capacity cone.old }
     requires empty { cone.old.items ≡ [] }
     requires unmarked { (y : ℕ) → value_in marks.old.items y ≡ false }
-    ensures walk { IsConeOf (FedBy feeds.now) starts.now (reverse cone.new.items) }
+    ensures walk { PathsEnd (FedBy feeds.now) 64
+        → IsConeOf (FedBy feeds.now) starts.now (reverse cone.new.items) }
+    ensures once { EachOnce (reverse cone.new.items) }
+    ensures only { (y : ℕ) → Contains (reverse cone.new.items) y
+        → InCone (FedBy feeds.now) starts.now y }
     ensures few { (nodes : List ℕ) → ((y : ℕ) → InCone (FedBy feeds.now) starts.now y
         → Contains nodes y)
         → length cone.new.items ≤ length nodes }
@@ -121,13 +128,13 @@ pub fn list_cone(feeds: &FeedLists, cone: &mut Vec<u32>, marks: &mut Vec<bool>, 
 
 /// Lists all valves; taken from the end, each comes before all that it feeds. It takes no memory.
 pub fn list_all(feeds: &FeedLists, cone: &mut Vec<u32>, marks: &mut Vec<bool>)
-    requires ends { PathsEnd (FedBy feeds.now) 64 }
     requires size { length marks.old.items ≡ length feeds.now.fed }
     requires room { length feeds.now.fed ≤ vec_capacity cone.old }
     requires empty { cone.old.items ≡ [] }
     requires unmarked { (y : ℕ) → value_in marks.old.items y ≡ false }
     ensures all { (y : ℕ) → y < length feeds.now.fed → Contains (reverse cone.new.items) y }
-    ensures first { FeedersFirst (FedBy feeds.now) (reverse cone.new.items) }
+    ensures first { PathsEnd (FedBy feeds.now) 64
+        → FeedersFirst (FedBy feeds.now) (reverse cone.new.items) }
     ensures few { length cone.new.items ≤ length feeds.now.fed }
     ensures within { All (λ y. y < length feeds.now.fed) (reverse cone.new.items) }
     ensures marked { (y : ℕ) → value_in marks.new.items y ≡ true

@@ -7,8 +7,7 @@ ghost use Rattle.std.specs.Prelude.{Contains, IsOk, OnOk};
 ghost use Rattle.std.specs.List.Sorted.{IsPermutation};
 ghost use Rattle.health_valves.specs.Laying.{HasRoomFor};
 ghost use Rattle.health_valves.specs.Blueprint.{IsDrawn, Drawn, net_in, no_blueprint, own_in};
-ghost use Rattle.health_valves.specs.Walk.{PathsEnd};
-ghost use Rattle.health_valves.specs.Valves.{Feeds, ValvesStandFor, IsReady, MeetsEquation, Net, count};
+ghost use Rattle.health_valves.specs.Valves.{Feeds, HasEnds, ValvesStandFor, IsReady, MeetsEquation, Net, count};
 ghost use Rattle.health_valves.specs.Valves.{equation};
 ghost use Rattle.health_valves.specs.Valves.{size_of, value_in, value_of, with_need, with_own};
 ghost use Rattle.health_valves.specs.Pass.{CostsCone, HasCone, HasMarked, IsIdle, IsInOrder, MeetAll};
@@ -105,7 +104,7 @@ impl Valves {
     /// Lays a blueprint out in place of what was there, and works all its valves out. It takes no memory.
     pub fn lay_out(&mut self, blueprint: &mut Blueprint)
         requires planned { IsDrawn blueprint.old }
-        requires ends { PathsEnd (Feeds (net_in blueprint.old)) 64 }
+        requires ends { HasEnds (net_in blueprint.old) }
         requires room { HasRoomFor self.old (length blueprint.old.triggers) (length blueprint.old.links) }
         ensures fits { ValvesStandFor (net_in blueprint.old) (own_in blueprint.old) self.new }
         ensures meet { MeetAll (net_in blueprint.old) (own_in blueprint.old) self.new }
@@ -128,7 +127,7 @@ impl Valves {
 
         // They are those of each blueprint with these links in some order.
         ensures fits { (given : Drawn) → given.triggers ≡ blueprint.now.triggers
-            → IsPermutation given.links blueprint.now.links → PathsEnd (Feeds (net_in given)) 64
+            → IsPermutation given.links blueprint.now.links
             → ValvesStandFor (net_in given) (own_in given) self.new }
 
         ensures idle { IsIdle self.new }
@@ -161,7 +160,7 @@ impl Valves {
         requires few { size_of self.old ≤ 2 ^ 32 }
         ensures fits { (net : Net) (own : ℕ → ℕ) → ValvesStandFor net own self.old → ValvesStandFor net own self.new }
         ensures idle { IsIdle self.new }
-        ensures meet { (net : Net) (own : ℕ → ℕ) → ValvesStandFor net own self.old
+        ensures meet { (net : Net) (own : ℕ → ℕ) → ValvesStandFor net own self.old → HasEnds net
             → MeetAll net own self.new }
         ensures room { (n m : ℕ) → HasRoomFor self.old n m → HasRoomFor self.new n m }
     {
@@ -176,7 +175,7 @@ impl Valves {
 
         // It meets its equation then, and no other value changes.
         ensures fits { (net : Net) (own : ℕ → ℕ) → ValvesStandFor net own self.old → ValvesStandFor net own self.new }
-        ensures meets { (net : Net) (own : ℕ → ℕ) → ValvesStandFor net own self.old
+        ensures meets { (net : Net) (own : ℕ → ℕ) → ValvesStandFor net own self.old → HasEnds net
             → MeetsEquation net own (value_of self.new) node }
         ensures others { (n : ℕ) → n ≢ node → value_of self.new n ≡ value_of self.old n }
 
@@ -207,7 +206,7 @@ impl Valves {
         requires first { IsInOrder self.old }
         requires marked { HasMarked self.old }
         ensures fits { (net : Net) (own : ℕ → ℕ) → ValvesStandFor net own self.old → ValvesStandFor net own self.new }
-        ensures mends { (net : Net) (own : ℕ → ℕ) → ValvesStandFor net own self.old
+        ensures mends { (net : Net) (own : ℕ → ℕ) → ValvesStandFor net own self.old → HasEnds net
             → MeetBehind net own self.old → MeetBehind net own self.new }
         ensures within { All (λ y. y < size_of self.new) (waiting self.new) }
         ensures first { IsInOrder self.new }
@@ -233,7 +232,7 @@ impl Valves {
         requires first { IsInOrder self.old }
         requires marked { HasMarked self.old }
         ensures fits { (net : Net) (own : ℕ → ℕ) → ValvesStandFor net own self.old → ValvesStandFor net own self.new }
-        ensures mends { (net : Net) (own : ℕ → ℕ) → ValvesStandFor net own self.old
+        ensures mends { (net : Net) (own : ℕ → ℕ) → ValvesStandFor net own self.old → HasEnds net
             → MeetBehind net own self.old → MeetAll net own self.new }
         ensures idle { IsIdle self.new }
         ensures cost { steps.new ≡ steps.old + length self.old.cone.items }
@@ -252,7 +251,7 @@ impl Valves {
         ensures idle { IsIdle self.new }
 
         // Where all valves outside the cone met their equations, all valves do then.
-        ensures mends { (net : Net) (own : ℕ → ℕ) → ValvesStandFor net own self.old
+        ensures mends { (net : Net) (own : ℕ → ℕ) → ValvesStandFor net own self.old → HasEnds net
             → MeetOutside net own starts.now self.old → MeetAll net own self.new }
         ensures cost { (net : Net) (own : ℕ → ℕ) (nodes : List ℕ) → ValvesStandFor net own self.old
             → HasCone net starts.now nodes
@@ -272,7 +271,7 @@ impl Valves {
         requires few { size_of self.old ≤ 2 ^ 32 }
         ensures fits { (net : Net) (own : ℕ → ℕ) → ValvesStandFor net own self.old → ValvesStandFor net own self.new }
         ensures idle { IsIdle self.new }
-        ensures meet { (net : Net) (own : ℕ → ℕ) → ValvesStandFor net own self.old
+        ensures meet { (net : Net) (own : ℕ → ℕ) → ValvesStandFor net own self.old → HasEnds net
             → MeetAll net own self.new }
         ensures cost { steps.new ≤ steps.old + size_of self.old }
         ensures room { (n m : ℕ) → HasRoomFor self.old n m → HasRoomFor self.new n m }
@@ -350,9 +349,9 @@ impl Valves {
         ensures fits { (net : Net) (own : ℕ → ℕ) → ValvesStandFor net own self.old
             → ValvesStandFor net (with_own valve count own) self.new }
         ensures idle { IsIdle self.new }
-        ensures meet { (net : Net) (own : ℕ → ℕ) → ValvesStandFor net own self.old → MeetAll net own self.old
-            → MeetAll net (with_own valve count own) self.new }
-        ensures changed { (net : Net) (own : ℕ → ℕ) → ValvesStandFor net own self.old
+        ensures meet { (net : Net) (own : ℕ → ℕ) → ValvesStandFor net own self.old → HasEnds net
+            → MeetAll net own self.old → MeetAll net (with_own valve count own) self.new }
+        ensures changed { (net : Net) (own : ℕ → ℕ) → ValvesStandFor net own self.old → HasEnds net
             → MeetAll net own self.old
             → IsTrue result ↔ (value_of self.new valve ≢ value_of self.old valve) }
         ensures quiet { result ≡ false → steps.new ≡ steps.old }
@@ -399,7 +398,7 @@ impl Valves {
         ensures fits { (net : Net) (own : ℕ → ℕ) → ValvesStandFor net own self.old
             → ValvesStandFor (with_need valve need inverted net) own self.new }
         ensures idle { IsIdle self.new }
-        ensures meet { (net : Net) (own : ℕ → ℕ) → ValvesStandFor net own self.old
+        ensures meet { (net : Net) (own : ℕ → ℕ) → ValvesStandFor net own self.old → HasEnds net
             → MeetAll net own self.old
             → MeetAll (with_need valve need inverted net) own self.new }
         ensures room { (n m : ℕ) → HasRoomFor self.old n m → HasRoomFor self.new n m }
@@ -436,8 +435,8 @@ impl Valves {
         ensures fits { (net : Net) (own : ℕ → ℕ) → ValvesStandFor net own self.old
             → ValvesStandFor net (with_own valve count own) self.new }
         ensures idle { IsIdle self.new }
-        ensures meet { (net : Net) (own : ℕ → ℕ) → ValvesStandFor net own self.old → MeetAll net own self.old
-            → MeetAll net (with_own valve count own) self.new }
+        ensures meet { (net : Net) (own : ℕ → ℕ) → ValvesStandFor net own self.old → HasEnds net
+            → MeetAll net own self.old → MeetAll net (with_own valve count own) self.new }
         ensures room { (n m : ℕ) → HasRoomFor self.old n m → HasRoomFor self.new n m }
     {
         self.put_own(valve, count);
@@ -460,7 +459,7 @@ impl Valves {
         requires valve { valve < size_of self.old }
         ensures fits { (net : Net) (own : ℕ → ℕ) → ValvesStandFor net own self.old → ValvesStandFor net own self.new }
         ensures idle { IsIdle self.new }
-        ensures mends { (net : Net) (own : ℕ → ℕ) → ValvesStandFor net own self.old
+        ensures mends { (net : Net) (own : ℕ → ℕ) → ValvesStandFor net own self.old → HasEnds net
             → MeetOutside net own (valve ∷ []) self.old → MeetAll net own self.new }
         ensures room { (n m : ℕ) → HasRoomFor self.old n m → HasRoomFor self.new n m }
     {

@@ -24,7 +24,7 @@ loop-valve-init c =
     }
 
 pub visit-requires-clause-shallow : goal.visit-requires-clause-shallow
-visit-requires-clause-shallow c = shallow (FedBy c.args.feeds.now) 64 _ c.requires.ends
+visit-requires-clause-shallow c ends = shallow (FedBy c.args.feeds.now) 64 _ ends
 
 pub loop-valve-preserved : goal.loop-valve-preserved
 loop-valve-preserved c =

@@ -16,16 +16,16 @@ walk-requires-clause-fills c =
     }
 
 pub returns-clause-walk : goal.returns-clause-walk
-returns-clause-walk c =
+returns-clause-walk c ends =
     let w = c.walk.ensures in
     let f = FedBy c.args.feeds.now in
     record {
       members = λ y. (
         λ i. from_none c.args.cone.now.items y _ c.requires.empty (w.only y i),
-        λ k. all_above f (reverse c.walk.new.cone.items) w.listed.first k.2.0 k.0 y (w.valves k.0 k.1) k.2.1,
+        λ k. all_above f (reverse c.walk.new.cone.items) (w.listed.first ends) k.2.0 k.0 y (w.valves k.0 k.1) k.2.1,
       );
       once = w.listed.once;
-      first = w.listed.first;
+      first = w.listed.first ends;
     }
 
 pub returns-clause-few : goal.returns-clause-few
@@ -41,3 +41,9 @@ returns-clause-within c =
     let now = w.size in
     let size = c.requires.size in
     all_in (λ y. y < length c.args.feeds.now.fed) (reverse c.walk.new.cone.items) (λ y i. let b = marked_within c.walk.new.marks.items y (w.listed.marked y i) in omega arith)
+
+pub returns-clause-once : goal.returns-clause-once
+returns-clause-once c = c.walk.ensures.listed.once
+
+pub returns-clause-only : goal.returns-clause-only
+returns-clause-only c y i = from_none c.args.cone.now.items y _ c.requires.empty (c.walk.ensures.only y i)

@@ -25,7 +25,7 @@ pub returns-clause-fits : goal.returns-clause-fits
 returns-clause-fits g c net own fits = fits_after net own c.args.self.now _ _ _ _ _ c.args.node fits c.as_mut_slice-values.ensures.value c.as_mut_slice-counts.ensures.value c.work_out.auto.values c.work_out.auto.counts c.fed-fed.ensures.fed c.work_out.ensures.others c.work_out.ensures.counts
 
 pub returns-clause-meets : goal.returns-clause-meets
-returns-clause-meets g c net own fits = meets_after net own c.args.self.now _ _ _ _ c.args.node c.requires.node fits c.as_mut_slice-values.ensures.value c.as_mut_slice-counts.ensures.value c.work_out.auto.values c.index-row.ensures c.work_out.ensures.others c.work_out.ensures.value
+returns-clause-meets g c net own fits ends = meets_after net ends own c.args.self.now _ _ _ _ c.args.node c.requires.node fits c.as_mut_slice-values.ensures.value c.as_mut_slice-counts.ensures.value c.work_out.auto.values c.index-row.ensures c.work_out.ensures.others c.work_out.ensures.value
 
 pub returns-clause-spares : goal.returns-clause-spares
 returns-clause-spares g c net own n fits ne un m =

@@ -15,7 +15,7 @@ set_up-requires-clause-room c =
 
 pub settle_uncounted-requires-clause-ready : goal.settle_uncounted-requires-clause-ready
 settle_uncounted-requires-clause-ready c =
-    (net_in c.args.blueprint.now, own_in c.args.blueprint.now, c.set_up.ensures.fits c.args.blueprint.now (sym c.sort.ensures.triggers) c.sort.ensures.permutation c.requires.ends)
+    (net_in c.args.blueprint.now, own_in c.args.blueprint.now, c.set_up.ensures.fits c.args.blueprint.now (sym c.sort.ensures.triggers) c.sort.ensures.permutation)
 
 pub settle_uncounted-requires-clause-few : goal.settle_uncounted-requires-clause-few
 settle_uncounted-requires-clause-few c =
@@ -26,11 +26,11 @@ settle_uncounted-requires-clause-few c =
 
 pub returns-clause-fits : goal.returns-clause-fits
 returns-clause-fits c =
-    c.settle_uncounted.ensures.fits _ _ (c.set_up.ensures.fits c.args.blueprint.now (sym c.sort.ensures.triggers) c.sort.ensures.permutation c.requires.ends)
+    c.settle_uncounted.ensures.fits _ _ (c.set_up.ensures.fits c.args.blueprint.now (sym c.sort.ensures.triggers) c.sort.ensures.permutation)
 
 pub returns-clause-meet : goal.returns-clause-meet
 returns-clause-meet c =
-    c.settle_uncounted.ensures.meet _ _ (c.set_up.ensures.fits c.args.blueprint.now (sym c.sort.ensures.triggers) c.sort.ensures.permutation c.requires.ends)
+    c.settle_uncounted.ensures.meet _ _ (c.set_up.ensures.fits c.args.blueprint.now (sym c.sort.ensures.triggers) c.sort.ensures.permutation) c.requires.ends
 
 pub returns-clause-kept : goal.returns-clause-kept
 returns-clause-kept c n m room = c.settle_uncounted.ensures.room n m (c.set_up.ensures.kept n m room)

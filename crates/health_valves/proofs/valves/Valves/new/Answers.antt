@@ -12,8 +12,6 @@ laid_nothing = record {
   each_row = λ n row at. let no : ⊥ = cc in absurd no;
   reversed = λ x y within. absurd (omega arith);
   within = λ x y fed. absurd (in_none y fed);
-  ends = ranked_ends (Feeds (net_in no_blueprint)) (λ x. 0) 64
-      (record { rises = λ x y fed. absurd (in_none x fed); below = λ x. omega arith });
 }
 
 pub returns-clause-fits : goal.returns-clause-fits

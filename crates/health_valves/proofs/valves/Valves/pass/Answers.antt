@@ -10,7 +10,7 @@ loop-preserved g c =
     let now = p.cost in
     record {
       fits = λ net own f. p.fits net own (i.fits net own f);
-      mends = λ net own f m. p.mends net own (i.fits net own f) (i.mends net own f m);
+      mends = λ net own f ends m. p.mends net own (i.fits net own f) ends (i.mends net own f ends m);
       within = p.within;
       first = p.first;
       marked = p.marked;
@@ -22,11 +22,11 @@ pub returns-clause-fits : goal.returns-clause-fits
 returns-clause-fits g c net own f = c.pass_one.ensures.fits net own (c.loop.invariant.fits net own f)
 
 pub returns-clause-mends : goal.returns-clause-mends
-returns-clause-mends g c net own f m n b =
+returns-clause-mends g c net own f ends m n b =
     let i = c.loop.invariant in
     let p = c.pass_one.ensures in
     let none = p.end c.loop-test.false in
-    p.mends net own (i.fits net own f) (i.mends net own f m) n b (λ k. in_none n (rw none at k))
+    p.mends net own (i.fits net own f) ends (i.mends net own f ends m) n b (λ k. in_none n (rw none at k))
 
 pub returns-clause-room : goal.returns-clause-room
 returns-clause-room g c n m h = c.pass_one.ensures.room n m (c.loop.invariant.room n m h)

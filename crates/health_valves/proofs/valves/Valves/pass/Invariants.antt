@@ -1,6 +1,6 @@
 use Rattle.std.proofs.Common.{◌≡◌, ◌<◌, ◌+◌, ℕ, length}
 use Rattle.std.specs.Prelude.{All}
-use Rattle.health_valves.specs.Valves.{Net, ValvesStandFor, size_of}
+use Rattle.health_valves.specs.Valves.{HasEnds, Net, ValvesStandFor, size_of}
 use Rattle.health_valves.specs.Laying.{HasRoomFor}
 use Rattle.health_valves.specs.Pass.{MeetBehind, HasMarked, IsInOrder, waiting}
 use Rattle.health_valves.proofs.valves.Valves.pass.Given as goal
@@ -8,7 +8,7 @@ use Rattle.health_valves.proofs.valves.Valves.pass.Given as goal
 abbrev pub invariant-loop : goal.invariant-loop
 invariant-loop g l = record {
   fits : (net : Net) (own : ℕ → ℕ) → ValvesStandFor net own l.fn.self → ValvesStandFor net own l.self;
-  mends : (net : Net) (own : ℕ → ℕ) → ValvesStandFor net own l.fn.self → MeetBehind net own l.fn.self → MeetBehind net own l.self;
+  mends : (net : Net) (own : ℕ → ℕ) → ValvesStandFor net own l.fn.self → HasEnds net → MeetBehind net own l.fn.self → MeetBehind net own l.self;
   within : All (λ y. y < size_of l.self) (waiting l.self);
   first : IsInOrder l.self;
   marked : HasMarked l.self;

@@ -4,7 +4,7 @@ use Rattle.std.proofs.lemmas.Bool.{cases_eq}
 use Rattle.health_valves.specs.Valves.{value_of, value_in, with_need, MeetsEquation}
 use Rattle.health_valves.proofs.Members.{in_head}
 use Rattle.health_valves.proofs.Counts.{beq_yes}
-use Rattle.health_valves.proofs.Needs.{meets_there, now_is}
+use Rattle.health_valves.proofs.Needs.{ends_same, meets_there, now_is}
 use Rattle.health_valves.proofs.valves.Valves.reshape.Goals as goal
 
 pub count-requires-clause-ready : goal.count-requires-clause-ready
@@ -17,7 +17,7 @@ pub returns-clause-fits : goal.returns-clause-fits
 returns-clause-fits c net own f = c.settle_above.ensures.fits _ own (c.put_need.ensures.fits net own f)
 
 pub returns-then-now-was-clause-meet : goal.returns-then-now-was-clause-meet
-returns-then-now-was-clause-meet c net own f meet n b =
+returns-then-now-was-clause-meet c net own f ends meet n b =
     let valve = c.args.valve in
     let s = c.put_need.new.self in
     let vs : s.values ≡ c.args.self.now.values = ap (λ s. s.values) c.put_need.ensures.rest in
@@ -31,11 +31,11 @@ returns-then-now-was-clause-meet c net own f meet n b =
     ]
 
 pub returns-clause-meet : goal.returns-clause-meet
-returns-clause-meet c net own f meet =
+returns-clause-meet c net own f ends meet =
     let valve = c.args.valve in
     let s = c.put_need.new.self in
     let vs : s.values ≡ c.args.self.now.values = ap (λ s. s.values) c.put_need.ensures.rest in
-    c.settle_above.ensures.mends _ own (c.put_need.ensures.fits net own f)
+    c.settle_above.ensures.mends _ own (c.put_need.ensures.fits net own f) (ends_same valve c.args.need c.args.inverted net 64 ends)
     (λ n b out. meets_there valve c.args.need c.args.inverted net own (value_of s) n (λ e. out (valve, in_head valve [], (0, e)))
     (subst (λ l. MeetsEquation net own (value_in l.items) n) (sym vs) (meet n b)))
 

@@ -17,7 +17,7 @@ pub returns-clause-fits : goal.returns-clause-fits
 returns-clause-fits c net own f = c.settle_above.ensures.fits net _ (c.put_own.ensures.fits net own f)
 
 pub returns-then-now-was-clause-meet : goal.returns-then-now-was-clause-meet
-returns-then-now-was-clause-meet c net own f meet n b =
+returns-then-now-was-clause-meet c net own f ends meet n b =
     let rest = c.put_own.ensures.rest in
     let vs : c.put_own.new.self.values ≡ c.args.self.now.values = ap (λ s. s.values) rest in
     let rs : c.put_own.new.self.rows ≡ c.args.self.now.rows = ap (λ s. s.rows) rest in
@@ -34,9 +34,9 @@ returns-then-now-was-clause-meet c net own f meet n b =
     ]
 
 pub returns-clause-meet : goal.returns-clause-meet
-returns-clause-meet c net own f meet =
+returns-clause-meet c net own f ends meet =
     let vs : c.put_own.new.self.values ≡ c.args.self.now.values = ap (λ s. s.values) c.put_own.ensures.rest in
-    c.settle_above.ensures.mends net _ (c.put_own.ensures.fits net own f) (λ n b out. there net own c.args.valve c.args.count (value_of c.put_own.new.self) n (λ e. out (c.args.valve, in_head c.args.valve [], (0, e))) (subst (λ l. MeetsEquation net own (value_in l.items) n) (sym vs) (meet n b)))
+    c.settle_above.ensures.mends net _ (c.put_own.ensures.fits net own f) ends (λ n b out. there net own c.args.valve c.args.count (value_of c.put_own.new.self) n (λ e. out (c.args.valve, in_head c.args.valve [], (0, e))) (subst (λ l. MeetsEquation net own (value_in l.items) n) (sym vs) (meet n b)))
 
 pub returns-clause-room : goal.returns-clause-room
 returns-clause-room c n m h = c.settle_above.ensures.room n m (c.put_own.ensures.room n m h)

@@ -8,7 +8,7 @@ use Rattle.health_valves.proofs.Planning.{laid, counted, none_in, owned}
 use Rattle.health_valves.proofs.valves.Valves.set_up.Goals as goal
 
 pub returns-clause-fits : goal.returns-clause-fits
-returns-clause-fits c given same moved ends =
+returns-clause-fits c given same moved =
     let given_size = ap length same in
     let blueprint = c.args.blueprint.now in
     let flags = ap length c.lay_none.ensures.flags ∙ length-replicate c.len-2.result false in
@@ -23,7 +23,7 @@ returns-clause-fits c given same moved ends =
       laid = laid blueprint given c.lay_rows.new.rows.items c.lay_links.new.feeds c.requires.planned same moved
           (c.lay_rows.ensures.rows ∙ ap (map row_of) c.triggers.ensures)
           (c.lay_links.ensures.valves ∙ c.lay_valves.ensures.valves ∙ n)
-          (λ x y. c.lay_links.ensures.fed x y ∙ ap (λ l. times x (feeders_in l y)) c.links.ensures) ends;
+          (λ x y. c.lay_links.ensures.fed x y ∙ ap (λ l. times x (feeders_in l y)) c.links.ensures);
       values = omega arith;
       counted = counted blueprint given c.lay_counts.new.counts.items (value_in c.lay_none.new.flags.items) c.requires.planned same moved (c.lay_counts.ensures.counts ∙ ap (map (λ (s : Trigger). s.own)) c.triggers-2.ensures) (λ x. rw c.lay_none.ensures.flags (none x));
       owned = owned blueprint given c.lay_counts-2.new.counts.items same (c.lay_counts-2.ensures.counts ∙ ap (map (λ (s : Trigger). s.own)) c.triggers-3.ensures);

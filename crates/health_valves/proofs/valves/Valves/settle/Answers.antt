@@ -3,13 +3,9 @@ use Rattle.std.specs.Prelude.{reverse}
 use Rattle.std.proofs.lemmas.List.{length-reverse}
 use Rattle.std.proofs.lemmas.List.Elements.{All-contains}
 use Rattle.health_valves.proofs.Turns.{relisted}
-use Rattle.health_valves.proofs.Walks.{edges_end, cone_net, cone_edges}
+use Rattle.health_valves.proofs.Walks.{edges_end, cone_net, cone_edges, leads_within}
+use Rattle.health_valves.specs.Valves.{size_of}
 use Rattle.health_valves.proofs.valves.Valves.settle.Goals as goal
-
-pub list_cone-requires-clause-ends : goal.list_cone-requires-clause-ends
-list_cone-requires-clause-ends g c =
-    let laid = c.requires.ready.2.laid in
-    edges_end c.requires.ready.0 _ _ laid 64 laid.ends
 
 pub list_cone-requires-clause-starts : goal.list_cone-requires-clause-starts
 list_cone-requires-clause-starts g c k d below =
@@ -41,10 +37,10 @@ pub returns-clause-fits : goal.returns-clause-fits
 returns-clause-fits g c net own f = c.pass.ensures.fits net own (relisted net own c.args.self.now _ refl refl refl refl refl c.list_cone.ensures.size c.list_cone.ensures.room f)
 
 pub returns-clause-mends : goal.returns-clause-mends
-returns-clause-mends g c net own f outside =
+returns-clause-mends g c net own f ends outside =
     let s = c.args.self.now in
-    let walk = c.list_cone.ensures.walk in
-    c.pass.ensures.mends net own (relisted net own s _ refl refl refl refl refl c.list_cone.ensures.size c.list_cone.ensures.room f)
+    let walk = c.list_cone.ensures.walk (edges_end net _ _ f.laid 64 ends) in
+    c.pass.ensures.mends net own (relisted net own s _ refl refl refl refl refl c.list_cone.ensures.size c.list_cone.ensures.room f) ends
     (λ n b out. outside n b (λ k. out ((walk.members n).1 (cone_edges net s.rows.items s.feeds f.laid c.args.starts.now n b k))))
 
 pub returns-clause-cost : goal.returns-clause-cost
@@ -52,9 +48,10 @@ returns-clause-cost g c net own nodes f has =
     let s = c.args.self.now in
     let l = c.list_cone.ensures in
     let size = f.laid.valves in
+    let rows = f.laid.size in
     let few = l.few nodes (λ y k.
-    let b = All-contains (λ n. n < length c.args.self.now.feeds.fed) _ y l.within ((l.walk.members y).1 k) in
-    has y (omega arith) (cone_net net s.rows.items s.feeds f.laid c.args.starts.now y k)) in
+    let b = All-contains (λ n. n < size_of s) c.args.starts.now k.0 c.requires.starts k.1 in
+    has y (leads_within net s.rows.items s.feeds f.laid k.2.0 k.0 y (omega (arith, b, rows)) k.2.1) (cone_net net s.rows.items s.feeds f.laid c.args.starts.now y k)) in
     let cost = c.pass.ensures.cost in
     omega arith
 
@@ -68,10 +65,10 @@ returns-clause-cone g c net own f =
       reverse c.list_cone.new.cone.items,
       (
         record {
-          once = l.walk.once;
+          once = l.once;
           within = λ y m. let b = All-contains (λ n. n < length c.args.self.now.feeds.fed) _ y l.within m in omega arith;
           above = λ y m.
-              let k = (l.walk.members y).0 m in
+              let k = l.only y m in
               cone_net net s.rows.items s.feeds f.laid c.args.starts.now y k;
         },
         omega arith,

@@ -1,12 +1,6 @@
 use Rattle.std.proofs.Common.{arith, sym, refl, ◌∙◌}
 use Rattle.health_valves.proofs.Turns.{relisted}
-use Rattle.health_valves.proofs.Walks.{edges_end}
 use Rattle.health_valves.proofs.valves.Valves.settle_all.Goals as goal
-
-pub list_all-requires-clause-ends : goal.list_all-requires-clause-ends
-list_all-requires-clause-ends g c =
-    let laid = c.requires.ready.2.laid in
-    edges_end c.requires.ready.0 _ _ laid 64 laid.ends
 
 pub list_all-requires-clause-size : goal.list_all-requires-clause-size
 list_all-requires-clause-size g c = let f = c.requires.ready.2 in f.marks ∙ sym f.laid.valves
@@ -39,9 +33,9 @@ pub returns-clause-fits : goal.returns-clause-fits
 returns-clause-fits g c net own f = c.pass.ensures.fits net own (relisted net own c.args.self.now _ refl refl refl refl refl c.list_all.ensures.size c.list_all.ensures.room f)
 
 pub returns-clause-meet : goal.returns-clause-meet
-returns-clause-meet g c net own f =
+returns-clause-meet g c net own f ends =
     let size = f.laid.valves in
-    c.pass.ensures.mends net own (relisted net own c.args.self.now _ refl refl refl refl refl c.list_all.ensures.size c.list_all.ensures.room f)
+    c.pass.ensures.mends net own (relisted net own c.args.self.now _ refl refl refl refl refl c.list_all.ensures.size c.list_all.ensures.room f) ends
     (λ n b out. absurd (out (c.list_all.ensures.all n (omega arith))))
 
 pub returns-clause-room : goal.returns-clause-room

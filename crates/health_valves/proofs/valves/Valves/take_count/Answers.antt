@@ -11,7 +11,7 @@ pub settle-requires-clause-ready : goal.settle-requires-clause-ready
 settle-requires-clause-ready g c = let r = c.requires.ready in (r.0, with_own c.args.valve c.args.count r.1, c.put_own.ensures.fits r.0 r.1 r.2)
 
 pub returns-then-now-was-clause-meet : goal.returns-then-now-was-clause-meet
-returns-then-now-was-clause-meet g c net own f meet n b =
+returns-then-now-was-clause-meet g c net own f ends meet n b =
     let rest = c.put_own.ensures.rest in
     let vs : c.put_own.new.self.values ≡ c.args.self.now.values = ap (λ s. s.values) rest in
     let rs : c.put_own.new.self.rows ≡ c.args.self.now.rows = ap (λ s. s.rows) rest in
@@ -31,12 +31,12 @@ pub returns-clause-fits : goal.returns-clause-fits
 returns-clause-fits g c net own f = c.settle.ensures.fits net _ (c.put_own.ensures.fits net own f)
 
 pub returns-clause-meet : goal.returns-clause-meet
-returns-clause-meet g c net own f meet =
+returns-clause-meet g c net own f ends meet =
     let vs : c.put_own.new.self.values ≡ c.args.self.now.values = ap (λ s. s.values) c.put_own.ensures.rest in
-    c.settle.ensures.mends net _ (c.put_own.ensures.fits net own f) (λ n b out. there net own c.args.valve c.args.count (value_of c.put_own.new.self) n (λ e. out (c.args.valve, in_head c.args.valve [], (0, e))) (subst (λ l. MeetsEquation net own (value_in l.items) n) (sym vs) (meet n b)))
+    c.settle.ensures.mends net _ (c.put_own.ensures.fits net own f) ends (λ n b out. there net own c.args.valve c.args.count (value_of c.put_own.new.self) n (λ e. out (c.args.valve, in_head c.args.valve [], (0, e))) (subst (λ l. MeetsEquation net own (value_in l.items) n) (sym vs) (meet n b)))
 
 pub returns-clause-changed : goal.returns-clause-changed
-returns-clause-changed g c net own f meet =
+returns-clause-changed g c net own f ends meet =
     let rest = c.put_own.ensures.rest in
     let vs : c.put_own.new.self.values ≡ c.args.self.now.values = ap (λ s. s.values) rest in
     let rs : c.put_own.new.self.rows ≡ c.args.self.now.rows = ap (λ s. s.rows) rest in
@@ -47,7 +47,7 @@ returns-clause-changed g c net own f meet =
     let now = now_is net own c.args.valve c.args.count _ _ _ _ (value_of c.settle.new.self) _ fit.laid at c.is_open-now.ensures (sym (own_alone net own c.args.valve c.args.count (c.requires.alone net own f) _)) in
     let was = c.value_at-was.ensures ∙ ap (λ l. value_in l c.args.valve) c.deref.ensures.value ∙ ap (λ l. value_in l.items c.args.valve) vs in
     let size = f.laid.size in
-    let met = c.settle.ensures.mends net _ fit (λ n b out. there net own c.args.valve c.args.count (value_of c.put_own.new.self) n (λ e. out (c.args.valve, in_head c.args.valve [], (0, e))) (subst (λ l. MeetsEquation net own (value_in l.items) n) (sym vs) (meet n b))) c.args.valve (omega arith) in
+    let met = c.settle.ensures.mends net _ fit ends (λ n b out. there net own c.args.valve c.args.count (value_of c.put_own.new.self) n (λ e. out (c.args.valve, in_head c.args.valve [], (0, e))) (subst (λ l. MeetsEquation net own (value_in l.items) n) (sym vs) (meet n b))) c.args.valve (omega arith) in
     ((λ t same. beq_no _ _ c.if-now-was.false (now ∙ sym met ∙ same ∙ sym was)), λ t. refl)
 
 pub returns-clause-cost : goal.returns-clause-cost
