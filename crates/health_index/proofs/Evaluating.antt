@@ -50,6 +50,7 @@ module _ (views : ViewsAgree) (zones : List Zone) (checks : Checks) (reports : L
     wired = laid.wired;
     told = laid.told;
     fits = fits;
+    ends = laid.ends;
     spare = spare;
     idle = idle;
   }

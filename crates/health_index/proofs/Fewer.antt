@@ -27,7 +27,7 @@ use Rattle.health_planning.proofs.Wiring.{ids_long}
 use Rattle.health_planning.specs.Later.{AreLater}
 use Rattle.health_planning.specs.Wired.{HaveValves, IsSpare, StandApart, ids_of, spare_condition, valve_with, watched_of}
 use Rattle.health_planning.specs.Zones.{Zone, placed_in}
-use Rattle.health_valves.proofs.Needs.{feeders_same, here, there}
+use Rattle.health_valves.proofs.Needs.{ends_same, feeders_same, here, there}
 use Rattle.health_valves.specs.Pass.{IsIdle, MeetAll}
 use Rattle.health_valves.specs.Valves.{Net, ValvesStandFor, with_need}
 use Rattle.health_valves.specs.declared.valves.Valves.{Valves}
@@ -232,6 +232,7 @@ module _ (zones : List Zone) (old new : Checks) (reports : List Report) (index :
             (ids_before place id check at) (sym (removed_at index.numbers gone place) ∙ at_number) at;
         told = stands.told;
         fits = fits;
+        ends = ends_same valve 0 false stands.net 64 stands.ends;
         meet = meet;
         idle = idle;
       }

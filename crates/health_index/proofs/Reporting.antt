@@ -260,6 +260,7 @@ module _ (fifty : FiftyAlone) (more : OneMoreReport) (zones : List Zone) (checks
     };
     told = stands.told;
     fits = fits;
+    ends = stands.ends;
     meet = meet;
     idle = idle;
   }

@@ -40,6 +40,7 @@ module _ (before after : Index) (keeps : Keeps before after)
         (subst (λ (numbers : List ℕ). AreValvesOf zones checks.list numbers before.seats is.net is.own reports) (sym keeps.numbers) is.wired);
     told = subst (TellApart zones) (sym keeps.seats) is.told;
     fits = stays is.net is.own is.fits;
+    ends = is.ends;
     meet = meet is.net is.own is.meet;
     idle = idle is.idle;
   }

@@ -11,7 +11,7 @@ use Rattle.check_model.specs.declared.checks.Check.{Check}
 use Rattle.check_model.specs.declared.checks.Check.TheVariants.{Endpoint, Calculated}
 use Rattle.checker_state.specs.Standing.{Seen}
 use Rattle.checker_state.specs.Standing.{StandsFor as HasSeen}
-use Rattle.health_valves.proofs.Needs.{feeders_same, here, there}
+use Rattle.health_valves.proofs.Needs.{ends_alike, feeders_same, here, there}
 use Rattle.health_valves.specs.Pass.{IsIdle}
 use Rattle.health_valves.specs.Valves.{Condition, Net, ValvesStandFor, with_need}
 use Rattle.health_valves.specs.declared.valves.Valves.{Valves}
@@ -66,7 +66,7 @@ none_yet list numbers net own valves fits = record {
     others = λ n none. refl;
   };
   fits = fits;
-  meet = λ met. met;
+  meet = λ ends met. met;
 }
 
 module _ (list : List (ℕ × Check)) (numbers : List ℕ) (apart : StandApart numbers) (place valve : ℕ)
@@ -283,7 +283,8 @@ module _ (zones : List Zone) (new : Checks) (reports : List Report) (index : Ind
     };
     told = f.told;
     fits = r.fits;
-    meet = r.meet f.meet;
+    ends = ends_alike f.net r.now r.reshaped.feeders f.ends;
+    meet = r.meet f.ends f.meet;
     idle = idle;
   }
 

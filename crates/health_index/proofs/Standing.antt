@@ -5,7 +5,7 @@ use Rattle.std.proofs.lemmas.Option.{slice_get_within}
 use Rattle.check_model.specs.Checks.{Checks}
 use Rattle.check_model.specs.Checks.{IsSound as AreSoundChecks}
 use Rattle.checker_state.specs.Standing.{Seen}
-use Rattle.health_valves.specs.Valves.{ValvesStandFor}
+use Rattle.health_valves.specs.Valves.{HasEnds, ValvesStandFor}
 use Rattle.health_valves.specs.Pass.{IsIdle, MeetAll}
 use Rattle.health_valves.specs.Blueprint.{Drawn, feeders_in, net_in, own_in}
 use Rattle.health_valves.specs.declared.valves.Valves.{Valves}
@@ -121,8 +121,9 @@ module _ (zones : List Zone) (checks : Checks) (refs members : List SetRef) (sea
       → AllListed zones refs → AllTell zones (ids_of checks.list) numbers refs seats
       → ((slot : ℕ) → set_seat seats slot ≢ 0 → HoldsSet zones slot)
       → AreSeen reports checks.list seen → AreTriggered reports checks.list numbers blueprint.triggers
+      → HasEnds (net_in blueprint)
       → MeetAll (net_in blueprint) (own_in blueprint) valves → StandsFor zones checks reports laid
-  stands reports are_zones apart sound are_reports all tell here are_seen triggered meet = record {
+  stands reports are_zones apart sound are_reports all tell here are_seen triggered ends meet = record {
     are_zones = are_zones;
     slots = apart;
     are_checks = are_checks;
@@ -139,6 +140,7 @@ module _ (zones : List Zone) (checks : Checks) (refs members : List SetRef) (sea
     wired = wired zones checks.list numbers refs seats blueprint are_zones apart valved built all tell reports triggered;
     told = told here;
     fits = fits;
+    ends = ends;
     meet = meet;
     idle = idle;
   }

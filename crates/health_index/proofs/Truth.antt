@@ -544,6 +544,7 @@ laid_of zones checks reports index stands = record {
   wired = stands.wired;
   told = stands.told;
   fits = stands.fits;
+  ends = stands.ends;
   spare = λ valve is.
       let many = stands.wired.many in
       let early = is.0 in
@@ -581,6 +582,7 @@ stands_where_all_meet views zones checks reports index = (
     wired = laid.wired;
     told = laid.told;
     fits = laid.fits;
+    ends = laid.ends;
     meet = valves_meet zones checks reports index laid (views zones (healthy_in index) laid.are_zones) all;
     idle = laid.idle;
   },

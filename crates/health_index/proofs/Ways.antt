@@ -133,6 +133,7 @@ module _ (zones : List Zone) (old new : Checks) (reports : List Report) (index :
         owns = λ place valve id check at numbered. its_own place valve place id check (here place id check at) numbered at;
         told = stands.told;
         fits = stands.fits;
+        ends = stands.ends;
         meet = stands.meet;
         idle = stands.idle;
       }
@@ -342,6 +343,7 @@ module _ (zones : List Zone) (old new : Checks) (reports : List Report) (index :
         ];
         told = stands.told;
         fits = fits;
+        ends = stands.ends;
         meet = meet;
         idle = idle;
       }

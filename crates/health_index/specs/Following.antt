@@ -19,7 +19,7 @@ use Rattle.health_planning.specs.Wired.{HaveValves, IsSeated, IsSpare, IsValveFo
 use Rattle.health_planning.specs.Zones.{AreZones, Zone, placed_in}
 use Rattle.zone_model.specs.Slotted.{IsHere, Slotted}
 use Rattle.health_valves.specs.Pass.{IsIdle, MeetAll}
-use Rattle.health_valves.specs.Valves.{Net, ValvesStandFor, size_of}
+use Rattle.health_valves.specs.Valves.{HasEnds, Net, ValvesStandFor, size_of}
 use Rattle.health_valves.specs.declared.valves.Valves.{Valves}
 
 -- ---- how checks follow
@@ -130,7 +130,7 @@ pub record Reshapes (list : List (ℕ × Check)) (numbers : List ℕ) (many : �
   pub now : Net
   pub reshaped : AreReshaped list numbers many net now
   pub fits : ValvesStandFor now own after
-  pub meet : MeetAll net own before → MeetAll now own after
+  pub meet : HasEnds net → MeetAll net own before → MeetAll now own after
 
 -- The index has the numbers of checks, and all that is to stand for them but how many open their valves and
 -- whether these are inverted.
@@ -164,5 +164,6 @@ pub record IsFollowed (zones : List Zone) (checks : Checks) (reports : List Repo
       → slice_get index.numbers place ≡ Some valve → own valve ≡ check_own check (passing reports id)
   pub told : TellApart zones index.seats
   pub fits : ValvesStandFor net own index.valves
+  pub ends : HasEnds net
   pub meet : MeetAll net own index.valves
   pub idle : IsIdle index.valves

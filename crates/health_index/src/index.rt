@@ -5,7 +5,7 @@ ghost use Rattle.std.specs.Prelude.{Contains, IfOk, IsOk, OnOk, if◌then◌else
 ghost use Rattle.check_model.specs.Checks.{Checks};
 ghost use Rattle.check_model.specs.Checks.{IsSound as AreSoundChecks};
 ghost use Rattle.health_planning.specs.Later.{AreLater};
-ghost use Rattle.health_valves.specs.Valves.{Feeds, ValvesStandFor, MeetsEquation, Net, size_of, value_of};
+ghost use Rattle.health_valves.specs.Valves.{Feeds, HasEnds, ValvesStandFor, MeetsEquation, Net, size_of, value_of};
 ghost use Rattle.health_valves.specs.Pass.{IsIdle};
 ghost use Rattle.health_index.specs.Index.{HasNode, IsEndpointOf, IsLaidFor, IsNumberOf, StandsFor};
 ghost use Rattle.health_index.specs.Index.{healthy_in};
@@ -693,7 +693,7 @@ impl HealthIndex {
             → WorksOut zones checks reports n self.old self.new result }
 
         // The same of its valve, where it has one of its own.
-        ensures meets { (net : Net) (own : ℕ → ℕ) → ValvesStandFor net own self.old.valves
+        ensures meets { (net : Net) (own : ℕ → ℕ) → ValvesStandFor net own self.old.valves → HasEnds net
             → node < size_of self.old.valves
             → MeetsEquation net own (value_of self.new.valves) node }
         ensures spares { (net : Net) (own : ℕ → ℕ) (n : ℕ) → ValvesStandFor net own self.old.valves

@@ -23,7 +23,7 @@ use Rattle.health_planning.specs.Wired.{group_seat, own_part, seat_of, set_seat,
 use Rattle.health_planning.specs.Zones.{AreZones, Zone}
 use Rattle.health_planning.specs.declared.seats.Seat.{Seat}
 use Rattle.health_valves.specs.Pass.{IsIdle, MeetAll}
-use Rattle.health_valves.specs.Valves.{Net, ValvesStandFor, with_own}
+use Rattle.health_valves.specs.Valves.{HasEnds, Net, ValvesStandFor, with_own}
 use Rattle.health_valves.specs.declared.valves.Valves.{Valves}
 use Rattle.record_set.specs.declared.sets.RecordSet.{RecordSet}
 
@@ -115,8 +115,8 @@ module _ (before after : List Zone) (old new : Checks) (reports : List Report) (
     (slots_after : HaveSlotsApart after) (sound : IsSound (watched_of after new))
     (valves : Valves) (space : Space) (now : List Seat) (ref : SetRef) (g n : ℕ)
     (fits : (net : Net) (own : ℕ → ℕ) → ValvesStandFor net own index.valves → ValvesStandFor net (with_own g n own) valves)
-    (meet : (net : Net) (own : ℕ → ℕ) → ValvesStandFor net own index.valves → MeetAll net own index.valves
-    → MeetAll net (with_own g n own) valves) (idle : IsIdle valves) where
+    (meet : (net : Net) (own : ℕ → ℕ) → ValvesStandFor net own index.valves → HasEnds net
+    → MeetAll net own index.valves → MeetAll net (with_own g n own) valves) (idle : IsIdle valves) where
   pub left_by : AreLeft before old after new delta → HasGone delta ref
       → LeavesGroup after index.seats index.valves ref g → IsSeatedIn ref.slot 0 index.seats now
       → n ≡ stands.own g - 1
@@ -126,7 +126,7 @@ module _ (before after : List Zone) (old new : Checks) (reports : List Report) (
       (left_stands before after old reports index stands are_after slots_after (subst (λ (c : Checks). IsSound (watched_of after c)) kept sound)
       delta.removed delta.added (moved before after stands.are_zones are_after made delta allowed edits gone.zone) ref gone.removed gone.added g leaves now seated
       valves space (subst (λ (k : ℕ). ValvesStandFor stands.net (with_own g k stands.own) valves) is (fits stands.net stands.own stands.fits))
-      (subst (λ (k : ℕ). MeetAll stands.net (with_own g k stands.own) valves) is (meet stands.net stands.own stands.fits stands.meet)) idle)
+      (subst (λ (k : ℕ). MeetAll stands.net (with_own g k stands.own) valves) is (meet stands.net stands.own stands.fits stands.ends stands.meet)) idle)
   left_by (inr (stayed, follows, none)) gone leaves seated is = absurd (gone.zone none)
 
   pub joined_by : AreLeft before old after new delta → HasCome delta ref
@@ -138,7 +138,7 @@ module _ (before after : List Zone) (old new : Checks) (reports : List Report) (
       (joined_stands before after old reports index stands are_after slots_after (subst (λ (c : Checks). IsSound (watched_of after c)) kept sound)
       delta.removed delta.added (moved before after stands.are_zones are_after made delta allowed edits come.zone) ref come.removed come.added g joins now seated
       valves space (subst (λ (k : ℕ). ValvesStandFor stands.net (with_own g k stands.own) valves) is (fits stands.net stands.own stands.fits))
-      (subst (λ (k : ℕ). MeetAll stands.net (with_own g k stands.own) valves) is (meet stands.net stands.own stands.fits stands.meet)) idle noted)
+      (subst (λ (k : ℕ). MeetAll stands.net (with_own g k stands.own) valves) is (meet stands.net stands.own stands.fits stands.ends stands.meet)) idle noted)
   joined_by (inr (stayed, follows, none)) come joins seated is noted = absurd (come.zone none)
 
 -- ---- no other way is taken by such a command

@@ -409,6 +409,7 @@ module _ (before after : List Zone) (checks : Checks) (reports : List Report) (i
       };
       told = told_apart;
       fits = fits;
+      ends = stands.ends;
       meet = meet;
       idle = idle;
     }

@@ -281,6 +281,7 @@ module _ (before after : List Zone) (checks : Checks) (reports : List Report) (i
     };
     told = told_apart;
     fits = stands.fits;
+    ends = stands.ends;
     meet = stands.meet;
     idle = stands.idle;
   }

@@ -657,6 +657,7 @@ module _ (before after : List Zone) (reports : List Report) (index : Index) (del
         (alias_seated before checks reports index stands)
         (λ slot some. taken_stays before after delta.removed delta.added index.seats moves valve_leaving.went by_came slot some (stands.told.here slot some)) stands.told;
     fits = stands.fits;
+    ends = stands.ends;
     meet = stands.meet;
     idle = stands.idle;
   }

@@ -5,7 +5,7 @@ use Rattle.check_model.specs.Checks.{IsSound as AreSoundChecks}
 use Rattle.check_model.specs.declared.checks.Check.{Check}
 use Rattle.check_model.specs.declared.checks.Check.TheVariants.{Endpoint, Calculated}
 use Rattle.checker_state.specs.Standing.{Seen}
-use Rattle.health_valves.specs.Valves.{ValvesStandFor, Net, size_of, value_of}
+use Rattle.health_valves.specs.Valves.{HasEnds, ValvesStandFor, Net, size_of, value_of}
 use Rattle.health_valves.specs.Pass.{IsIdle, MeetAll}
 use Rattle.health_valves.specs.declared.valves.Valves.{Valves}
 use Rattle.health_model.specs.Healthy.{group_value, healthy, sets_of}
@@ -107,6 +107,7 @@ pub record IsLaidFor (zones : List Zone) (checks : Checks) (reports : List Repor
   pub wired : AreValvesOf zones checks.list index.numbers index.seats net own reports
   pub told : TellApart zones index.seats
   pub fits : ValvesStandFor net own index.valves
+  pub ends : HasEnds net
   pub spare : (valve : ℕ) → IsSpare index.numbers valve → value_of index.valves valve ≡ true
   pub idle : IsIdle index.valves
 
@@ -132,6 +133,7 @@ pub record StandsFor (zones : List Zone) (checks : Checks) (reports : List Repor
   pub wired : AreValvesOf zones checks.list index.numbers index.seats net own reports
   pub told : TellApart zones index.seats
   pub fits : ValvesStandFor net own index.valves
+  pub ends : HasEnds net
   pub meet : MeetAll net own index.valves
   pub idle : IsIdle index.valves
 

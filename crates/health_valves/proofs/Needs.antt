@@ -6,7 +6,7 @@ use Rattle.std.proofs.lemmas.Bool.{cases_eq, eq-eqb, ne_eqb}
 use mathlib.Core.Path.{subst}
 use Rattle.calculated_health.specs.Status.{swapped_if}
 use Rattle.health_valves.specs.Valves.{count}
-use Rattle.health_valves.specs.Valves.{BothWays, Net, Condition, IsLaid, IsRow, IsCounted, IsOwned, Feeds, MeetsEquation, equation, with_need}
+use Rattle.health_valves.specs.Valves.{BothWays, HasEnds, Net, Condition, IsLaid, IsRow, IsCounted, IsOwned, Feeds, MeetsEquation, equation, with_need}
 use Rattle.health_valves.specs.Walk.{Leads, PathsEnd}
 use Rattle.health_valves.specs.declared.valves.ValveFeeds.{ValveFeeds}
 
@@ -30,6 +30,16 @@ pub set_here : {X : Type 0} (xs : List X) (k : ℕ) (x : X) → k < length xs �
 set_here [] k x within = absurd (omega arith)
 set_here (z ∷ xs) zero x within = refl
 set_here (z ∷ xs) (suc k) x within = set_here xs k x (omega arith)
+
+-- where each valve is fed by those that fed it, paths end still
+module _ (net now : Net) (alike : (n : ℕ) → (now.condition n).feeders ≡ (net.condition n).feeders) where
+  leads_alike : (k x y : ℕ) → Leads (Feeds now) k x y → Leads (Feeds net) k x y
+  leads_alike zero x y l = l
+  leads_alike (suc k) x y l = (l.0, subst (λ f. Contains f x) (alike l.0) l.1, leads_alike k l.0 y l.2)
+
+  pub ends_alike : HasEnds net → HasEnds now
+  unfolding PathsEnd
+  ends_alike h = λ x y l. h x y (leads_alike 64 x y l)
 
 module _ (valve need : ℕ) (inverted : Bool) (net : Net) where
   abbrev now : Net

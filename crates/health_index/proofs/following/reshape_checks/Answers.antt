@@ -1,5 +1,6 @@
 use Rattle.std.proofs.Common.{arith, refl}
 use Rattle.std.proofs.lemmas.Option.{slice_get_read}
+use Rattle.health_valves.proofs.Needs.{ends_alike}
 use Rattle.health_valves.specs.Valves.{with_need}
 use Rattle.health_planning.proofs.Numbers.{number_there}
 use Rattle.health_index.proofs.Reshaped.{none_yet, one_more_as}
@@ -53,7 +54,7 @@ loop-place-preserved c =
             now = with_need c.number_at-valve.result c.need_of.result c.inverted_of.result r.now;
             reshaped = one_more_as c.args.list.now c.args.numbers.now c.requires.numbers.apart c.loop-place.place c.number_at-valve.result held net r.now _ _ c.need_of.ensures c.inverted_of.ensures at numbered r.reshaped;
             fits = c.reshape.ensures.fits r.now own r.fits;
-            meet = λ met. c.reshape.ensures.meet r.now own r.fits (r.meet met);
+            meet = λ ends met. c.reshape.ensures.meet r.now own r.fits (ends_alike net r.now r.reshaped.feeders ends) (r.meet ends met);
           };
       idle = c.reshape.ensures.idle;
     }

@@ -81,7 +81,7 @@ returns-clause-followed c zones old reports stands later done =
     let here = came_at c.args.checks.now.checks.list _ c.self.inside.ids.items c.len-place.result held c.as_slice-list.ensures.checks same at in
     let checkers = c.fresh_checkers-checkers.result in
     let fits = c.set_count.ensures.fits was.net was.own was.fits in
-    let meet = c.set_count.ensures.meet was.net was.own was.fits was.meet in
+    let meet = c.set_count.ensures.meet was.net was.own was.fits was.ends was.meet in
     let spare = rw c.deref.ensures.value at c.spare_number-valve.ensures in
     followed_with _ w c.set_count.new.self _ (c.self.inside.ids.items ++ held.0 ∷ []) _ (c.self.inside.numbers.items ++ c.spare_number-valve.result ∷ []) _ (c.self.inside.seen.items ++ Some checkers ∷ []) _
     c.push_reserved.ensures.items c.push_reserved-2.ensures.items c.push_reserved-3.ensures.items zones c.args.checks.now.checks reports

@@ -80,4 +80,4 @@ returns-clause-followed c zones old reports stands later sound done =
     (alone_in_all w.net was.net w.own was.own c.self.inside.valves c.number_at-valve.result (w.within c.args.gone c.number_at-valve.result numbered) w.fits was.fits
     (gone_alone _ w c.args.gone c.number_at-valve.result goes have numbered))
     c.reshape.new.self (c.reshape.ensures.fits was.net was.own was.fits)
-    (c.reshape.ensures.meet was.net was.own was.fits was.meet) c.reshape.ensures.idle _)
+    (c.reshape.ensures.meet was.net was.own was.fits was.ends was.meet) c.reshape.ensures.idle _)

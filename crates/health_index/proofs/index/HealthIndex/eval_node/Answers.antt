@@ -21,7 +21,7 @@ not_of_node numbers valve node size spare (inr (inl high)) within e =
 not_of_node numbers valve node size spare (inr (inr behind)) within e = let late = behind.0 in omega arith
 
 pub returns-then-node-len-clause-meets : goal.returns-then-node-len-clause-meets
-returns-then-node-len-clause-meets g c net own fits within =
+returns-then-node-len-clause-meets g c net own fits ends within =
     let now = ap (λ (i : Index). size_of i.valves) c.self.view_is in
     let many = c.len.ensures in
     absurd (omega arith)
@@ -78,7 +78,7 @@ returns-clause-works_out g c zones checks reports n laid is =
           (λ valve spare.
           e.others valve (λ same. not_of_node c.self.inside.numbers.items valve c.args.node (size_of c.self.inside.valves) spare has (omega arith) same) ∙ inner.spare valve spare)
           _ c.self.view_is
-          c.args.node n c.eval_node.result own (e.meets inner.net inner.own inner.fits) (λ k. e.spares inner.net inner.own k inner.fits) e.changed
+          c.args.node n c.eval_node.result own (e.meets inner.net inner.own inner.fits inner.ends) (λ k. e.spares inner.net inner.own k inner.fits) e.changed
       | inr behind ↦
           let late = past zones checks reports _ inner c.args.node n behind in
           absurd (omega arith)

@@ -219,7 +219,7 @@ returns-clause-stands c before old reports is follows moves =
     (taken_all zones checks.list numbers c.plan_valves.new.refs.items seated c.plan_valves.new.seats.items _ _ c.slots_apart.ensures built c.plan_valves.ensures.rest taken_too)
     are
     (rw c.deref-9.ensures.value at c.plan_valves.ensures.checks reports (subst (AreSeen reports checks.list) (sym c.deref-10.ensures.value) are))
-    c.lay_out.ensures.meet
+    c.plan_valves.ensures.ends c.lay_out.ensures.meet
 
 pub returns-clause-first : goal.returns-clause-first
 returns-clause-first c none whole_is =
@@ -253,4 +253,4 @@ returns-clause-first c none whole_is =
     (λ slot some. taken_whole zones (ids_of checks.list) numbers all c.self.inside.refs.items c.args.gone.now c.args.came.now c.self.inside.seats.items seated anew on slot some))
     are
     (rw c.deref-9.ensures.value at c.plan_valves.ensures.checks [] (subst (AreSeen [] checks.list) (sym c.deref-10.ensures.value) are))
-    c.lay_out.ensures.meet
+    c.plan_valves.ensures.ends c.lay_out.ensures.meet

@@ -130,7 +130,7 @@ returns-clause-stands g c zones checks reports stands endpoint =
     took.0 took.1 c.from.result c.take_count.new.self c.requires.checker
     (rw inner here.0) (rw inner here.1) numbered endpoint took.2 took.4.takes
     (λ n results h. c.from.ensures ∙ took.4.counts n results h)
-    (c.take_count.ensures.fits old.net old.own old.fits) (c.take_count.ensures.meet old.net old.own old.fits old.meet) c.take_count.ensures.idle _
+    (c.take_count.ensures.fits old.net old.own old.fits) (c.take_count.ensures.meet old.net old.own old.fits old.ends old.meet) c.take_count.ensures.idle _
     _ (seen ∙ took.3)
 
 pub returns-clause-changed : goal.returns-clause-changed
@@ -152,7 +152,7 @@ returns-clause-changed g c zones checks reports stands endpoint =
     took.0 took.1 c.from.result c.take_count.new.self c.requires.checker
     (rw inner here.0) (rw inner here.1) numbered endpoint took.2 took.4.takes
     (λ n results h. c.from.ensures ∙ took.4.counts n results h)
-    (c.take_count.ensures.fits old.net old.own old.fits) (c.take_count.ensures.meet old.net old.own old.fits old.meet) c.take_count.ensures.idle
+    (c.take_count.ensures.fits old.net old.own old.fits) (c.take_count.ensures.meet old.net old.own old.fits old.ends old.meet) c.take_count.ensures.idle
     c.args.self.now.space in
     let check = at_place zones checks reports _ old c.args.id place (rw inner here.0) (rw inner here.1) in
     let was = (c.index_tells_health.ensures zones checks reports _ old).statuses c.args.id check.0 check.2 in
@@ -161,7 +161,7 @@ returns-clause-changed g c zones checks reports stands endpoint =
     ap (slice_index c.self.inside.numbers.items) (rw inner here.1) ∙ number_is c.self.inside.numbers.items place c.number_at-valve.result numbered in
     let old_is = ap (value_of c.self.inside.valves) (sym first) ∙ was in
     let new_is = ap (value_of c.take_count.new.self) (sym first) ∙ now in
-    let turned = c.take_count.ensures.changed old.net old.own old.fits old.meet in
+    let turned = c.take_count.ensures.changed old.net old.own old.fits old.ends old.meet in
     (λ t same. turned.0 t (new_is ∙ same ∙ sym old_is), λ differ. turned.1 (λ e. differ (sym new_is ∙ e ∙ old_is)))
 
 pub returns-clause-other : goal.returns-clause-other
