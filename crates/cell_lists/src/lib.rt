@@ -6,8 +6,10 @@
 
 mod links;
 mod lists;
+mod room;
 mod walk;
 
 pub use lists::CellLists;
 pub use octets::OutOfMemory;
+pub use room::make_room_for;
 pub use walk::Cells;

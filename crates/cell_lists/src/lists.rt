@@ -6,6 +6,7 @@ ghost use Rattle.std.specs.List.{All, Contains};
 ghost use Rattle.cell_lists.specs.Lists.{AreApart, IsFree, first_of, list_of, with_list, without};
 
 use crate::links::{Head, head_at, link, link_at, unlink};
+use crate::room::make_room_for;
 use crate::walk::Cells;
 use octets::OutOfMemory;
 use std::alloc::Global;
@@ -71,13 +72,13 @@ impl CellLists {
         if cells > MAX_CELLS - self.next.len() {
             return Err(OutOfMemory);
         }
-        let Ok(()) = self.heads.reserve(owners) else {
+        let Ok(()) = make_room_for(&mut self.heads, owners) else {
             return Err(OutOfMemory);
         };
-        let Ok(()) = self.next.reserve(cells) else {
+        let Ok(()) = make_room_for(&mut self.next, cells) else {
             return Err(OutOfMemory);
         };
-        let Ok(()) = self.before.reserve(cells) else {
+        let Ok(()) = make_room_for(&mut self.before, cells) else {
             return Err(OutOfMemory);
         };
         Ok(())

@@ -3,6 +3,7 @@
 ghost use Rattle.std.specs.Prelude.{◌≡◌, ◌≤◌, ◌<◌, ◌+◌, ◌∷◌, ◌++◌, [], IsOk, OnOk, length, slice_set};
 ghost use Rattle.std.specs.List.Sorted.{IsPermutation};
 
+use cell_lists::make_room_for;
 use octets::OutOfMemory;
 use std::alloc::Global;
 use std::marker::Model;
@@ -67,10 +68,10 @@ impl Blueprint {
         ensures kept { self.old.room ≤ self.new.room }
         ensures links_kept { self.old.links_room ≤ self.new.links_room }
     {
-        let Ok(()) = self.triggers.reserve(valves) else {
+        let Ok(()) = make_room_for(&mut self.triggers, valves) else {
             return Err(OutOfMemory);
         };
-        let Ok(()) = self.links.reserve(links) else {
+        let Ok(()) = make_room_for(&mut self.links, links) else {
             return Err(OutOfMemory);
         };
         Ok(())

@@ -8,7 +8,7 @@ ghost use Rattle.valve_feeds.specs.Feeds.{with_feed};
 
 use crate::joining::{Ends, free_cell, free_count, list_from, part, push_list};
 use crate::walk::{FedWalk, FeedersWalk};
-use cell_lists::CellLists;
+use cell_lists::{CellLists, make_room_for};
 use octets::OutOfMemory;
 use std::alloc::Global;
 use std::marker::Model;
@@ -76,7 +76,7 @@ impl FeedLists {
         } else {
             0
         };
-        let Ok(()) = self.ends.reserve(cells) else {
+        let Ok(()) = make_room_for(&mut self.ends, cells) else {
             return Err(OutOfMemory);
         };
         let Ok(()) = self.out.reserve(valves + first, cells) else {

@@ -4,15 +4,15 @@ use Rattle.valve_feeds.proofs.feeds.FeedLists.reserve.Goals as goal
 
 pub invariant_of-self-in_default-reserve : goal.invariant_of-self-in_default-reserve
 invariant_of-self-in_default-reserve c =
-    rw c.reserve.ensures.items
-    (rejoined _ _ _ _ _ c.self.invariant c.reserve-2.ensures.lists c.reserve-2.ensures.cells refl refl)
+    rw c.make_room_for.ensures.items
+    (rejoined _ _ _ _ _ c.self.invariant c.reserve.ensures.lists c.reserve.ensures.cells refl refl)
 
 pub invariant_of-self-in_default-reserve-2 : goal.invariant_of-self-in_default-reserve-2
 invariant_of-self-in_default-reserve-2 c =
-    rw c.reserve.ensures.items
-    (rejoined _ _ _ _ _ c.self.invariant c.reserve-2.ensures.lists c.reserve-2.ensures.cells c.reserve-3.ensures.lists c.reserve-3.ensures.cells)
+    rw c.make_room_for.ensures.items
+    (rejoined _ _ _ _ _ c.self.invariant c.reserve.ensures.lists c.reserve.ensures.cells c.reserve-2.ensures.lists c.reserve-2.ensures.cells)
 
 pub invariant_of-self-2 : goal.invariant_of-self-2
 invariant_of-self-2 c =
-    rw c.reserve.ensures.items
-    (rejoined _ _ _ _ _ c.self.invariant c.reserve-2.ensures.lists c.reserve-2.ensures.cells c.reserve-3.ensures.lists c.reserve-3.ensures.cells)
+    rw c.make_room_for.ensures.items
+    (rejoined _ _ _ _ _ c.self.invariant c.reserve.ensures.lists c.reserve.ensures.cells c.reserve-2.ensures.lists c.reserve-2.ensures.cells)
