@@ -1,4 +1,5 @@
 pub mod Counts
+pub mod Cuts
 pub mod Links
 pub mod Marks
 pub mod Members

@@ -109,3 +109,14 @@ with_need valve need inverted net = record {
   size = net.size;
   condition = λ n. if n == valve then record { need = need; inverted = inverted; feeders = (net.condition n).feeders } else net.condition n;
 }
+
+-- One valve has another condition.
+abbrev pub with_condition : (valve : ℕ) → Condition → Net → Net
+with_condition valve condition net = record {
+  size = net.size;
+  condition = λ n. if n == valve then condition else net.condition n;
+}
+
+-- Nothing feeds a valve, and nothing has to be open for it.
+abbrev pub unfed_condition : Condition
+unfed_condition = record { need = 0; inverted = false; feeders = [] }

@@ -11,6 +11,7 @@ mod laws;
 mod laying;
 mod room;
 mod steps;
+mod unfeeding;
 mod valves;
 mod writes;
 

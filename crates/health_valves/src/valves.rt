@@ -9,7 +9,8 @@ ghost use Rattle.health_valves.specs.Laying.{HasRoomFor};
 ghost use Rattle.health_valves.specs.Blueprint.{IsDrawn, Drawn, net_in, no_blueprint, own_in};
 ghost use Rattle.health_valves.specs.Valves.{Feeds, HasEnds, ValvesStandFor, IsReady, MeetsEquation, Net, count};
 ghost use Rattle.health_valves.specs.Valves.{equation};
-ghost use Rattle.health_valves.specs.Valves.{size_of, value_in, value_of, with_need, with_own};
+ghost use Rattle.health_valves.specs.Valves.{size_of, unfed_condition, value_in, value_of};
+ghost use Rattle.health_valves.specs.Valves.{with_condition, with_need, with_own};
 ghost use Rattle.health_valves.specs.Pass.{CostsCone, HasCone, HasMarked, IsIdle, IsInOrder, MeetAll};
 ghost use Rattle.health_valves.specs.Pass.{MeetBehind, MeetOutside, FlipsOnly, waiting};
 
@@ -18,6 +19,7 @@ use crate::cone::{list_all, list_cone};
 use crate::laying::{lay_counts, lay_links, lay_none, lay_rows, lay_valves};
 use crate::room::{make_feeds, make_room};
 use crate::steps::Steps;
+use crate::unfeeding::take_feeders;
 use crate::writes::{is_open, work_out};
 use octets::OutOfMemory;
 use std::alloc::Global;
@@ -447,6 +449,53 @@ impl Valves {
             return;
         }
         self.settle_above::<Brand>(valve, Blank::new(1));
+    }
+
+    /// Takes all feeds into a valve: nothing feeds it then, nothing has to be open for it, and nothing is
+    /// counted at it from outside. It feeds what it fed, and what stands above it is worked out where its
+    /// value changes. It takes no memory.
+    pub fn unfeed(&mut self, valve: u32)
+        requires ready { IsReady self.old }
+        requires idle { IsIdle self.old }
+        requires valve { valve < size_of self.old }
+        ensures fits { (net : Net) (own : ℕ → ℕ) → ValvesStandFor net own self.old
+            → ValvesStandFor (with_condition valve unfed_condition net) (with_own valve 0 own) self.new }
+        ensures idle { IsIdle self.new }
+        ensures meet { (net : Net) (own : ℕ → ℕ) → ValvesStandFor net own self.old → HasEnds net
+            → MeetAll net own self.old
+            → MeetAll (with_condition valve unfed_condition net) (with_own valve 0 own) self.new }
+        ensures room { (n m : ℕ) → HasRoomFor self.old n m → HasRoomFor self.new n m }
+    {
+        self.cut(valve);
+        if value_at(&self.values, valve as usize) {
+            return;
+        }
+        self.settle_above::<Brand>(valve, Blank::new(1));
+    }
+
+    /// Leaves a valve without feeders, a count or a condition; its value stays.
+    fn cut(&mut self, valve: u32)
+        requires ready { IsReady self.old }
+        requires valve { valve < size_of self.old }
+        ensures fits { (net : Net) (own : ℕ → ℕ) → ValvesStandFor net own self.old
+            → ValvesStandFor (with_condition valve unfed_condition net) (with_own valve 0 own) self.new }
+        ensures rest { self.new ≡ record self.old {
+          rows = self.new.rows;
+          feeds = self.new.feeds;
+          counts = self.new.counts;
+          owns = self.new.owns;
+        } }
+        ensures size { size_of self.new ≡ size_of self.old }
+        ensures room { (n m : ℕ) → HasRoomFor self.old n m → HasRoomFor self.new n m }
+    {
+        take_feeders(&mut self.feeds, valve);
+        let at = valve as usize;
+        self.rows[at] = ValveFeeds {
+            need: 0,
+            inverted: false,
+        };
+        self.counts[at] = 0;
+        self.owns[at] = 0;
     }
 
     /// Works out the cone of a valve, with a count of its own that nobody sees.
