@@ -1,5 +1,5 @@
 -- Feeds into a valve that go.
-use Rattle.std.proofs.Common.{◌≡◌, ◌≢◌, ◌<◌, ◌≤◌, ◌+◌, ◌^◌, ℕ, zero, suc, Bool, true, false, List, [], ◌∷◌, length, set, length-set, get_or-set_same, get_or-set_other, arith, refl, ap, sym, ◌∙◌, inl, inr, Option, Some}
+use Rattle.std.proofs.Common.{◌≡◌, ◌≢◌, ◌<◌, ◌+◌, ◌^◌, ℕ, zero, suc, Bool, true, false, List, [], ◌∷◌, length, set, length-set, get_or-set_same, get_or-set_other, arith, refl, ap, sym, ◌∙◌, inl, inr, Some}
 use Rattle.std.specs.Prelude.{◌==◌, if◌then◌else◌, nat_le, slice_get, slice_index}
 use Rattle.std.specs.List.{Contains}
 use Rattle.std.proofs.lemmas.Bool.{cases_eq, eq-eqb, le-leb, ne_eqb}
@@ -12,7 +12,7 @@ use Rattle.health_valves.specs.declared.valves.ValveFeeds.{ValveFeeds}
 use Rattle.health_valves.proofs.Counts.{own_here, own_there, reowned}
 use Rattle.health_valves.proofs.Members.{in_none}
 use Rattle.health_valves.proofs.Needs.{set_beside}
-use Rattle.health_valves.proofs.Times.{in_times, times_here, times_in, times_there}
+use Rattle.health_valves.proofs.Times.{in_times, times_in, times_there}
 
 some_same : {X : Type 0} {x y : X} → Some x ≡ Some y → x ≡ y
 some_same e = cc

@@ -8,10 +8,9 @@ use Rattle.std.proofs.lemmas.Bool.{cases_eq, cases_lt, ne_eqb}
 use Rattle.std.proofs.lemmas.List.{get_or_past, get_or-replicate, length-map, length-replicate}
 use Rattle.std.proofs.lemmas.Option.{get_or_from_slice_get, slice_get_within}
 use mathlib.Core.Path.{subst}
-use Rattle.health_valves.specs.Valves.{BothWays, Feeds, IsCounted, IsLaid, IsOwned, IsRow, count, fed_by, times, value_in}
+use Rattle.health_valves.specs.Valves.{BothWays, IsCounted, IsLaid, IsOwned, IsRow, count, fed_by, times, value_in}
 use Rattle.health_valves.specs.Laying.{row_of}
 use Rattle.health_valves.specs.Blueprint.{IsDrawn, Drawn, feeders_in, net_in, own_in, own_of, condition_of}
-use Rattle.health_valves.specs.Walk.{PathsEnd}
 use Rattle.health_valves.specs.declared.valves.ValveFeeds.{ValveFeeds}
 use Rattle.health_valves.specs.declared.blueprint.Feeding.{Feeding}
 use Rattle.health_valves.specs.declared.blueprint.Trigger.{Trigger}

@@ -1,4 +1,4 @@
-use Rattle.std.proofs.Common.{◌≡◌, ◌<◌, ℕ, List, [], length, ap, sym, ◌∙◌}
+use Rattle.std.proofs.Common.{◌≡◌, ◌<◌, [], length, ap, sym, ◌∙◌}
 use mathlib.Core.Path.{subst}
 use Rattle.valve_feeds.specs.Feeds.{BothWays, fed_by, feeders_of, times}
 use Rattle.health_valves.proofs.Cuts.{fewer_first, times_beside}

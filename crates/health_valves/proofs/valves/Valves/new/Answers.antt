@@ -1,7 +1,6 @@
 use Rattle.std.proofs.Common.{[], length, refl, ap, arith}
 use Rattle.health_valves.proofs.Members.{in_none}
-use Rattle.health_valves.proofs.Walks.{ranked_ends}
-use Rattle.health_valves.specs.Valves.{Feeds, IsLaid}
+use Rattle.health_valves.specs.Valves.{IsLaid}
 use Rattle.health_valves.specs.Blueprint.{net_in, no_blueprint}
 use Rattle.health_valves.proofs.valves.Valves.new.Goals as goal
 
