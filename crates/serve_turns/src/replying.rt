@@ -1,24 +1,94 @@
-//! The reply to a packet of which none is kept.
+//! The reply to a packet, which is kept or made.
 
-ghost use Rattle.std.specs.Prelude.{◌≡◌, ◌≤◌, None, Some, IfSome};
+ghost use Rattle.std.specs.Prelude.{◌≡◌, ◌≤◌, length, take, None, Some, IfSome};
 ghost use Rattle.session_model.specs.Engine.{Engine, QueryGives};
 ghost use Rattle.r53_core.specs.Journaled.{config_of};
 ghost use Rattle.r53_core.specs.Stores.{StandsFor};
-ghost use Rattle.serve_turns.specs.Settled.{AreSettled};
+ghost use Rattle.serve_turns.specs.Settled.{AreSettled, IsThere, octets_of};
 ghost use Rattle.settled_replies.specs.Names.{AreOctets};
 ghost use Rattle.settled_replies.specs.Settled.{AnswersAll};
 
 use address_text::IpAddress;
 use dns_wire::Reply;
 use geo_latency::Tables;
-use packet_cache::PacketCache;
+use octets::front;
+use packet_cache::{PacketCache, key_of};
 use r53_core::Store;
+
+/// Where the reply to a packet stands.
+#[derive(Clone, Copy, Debug, PartialEq, Eq)]
+pub(crate) enum Told {
+    /// Nothing is answered.
+    Nothing,
+    /// In the packet's own place, with so many octets.
+    InPacket(usize),
+    /// In the reply.
+    InReply,
+}
+
+/// Answers a packet that lies in front of these octets: by the reply that is kept for it, which takes its place, or by
+/// one that is made.
+#[inline(always)]
+pub(crate) fn reply_to(
+    store: &mut Store,
+    tables: &Tables,
+    peer: IpAddress,
+    words: &[u64; 8],
+    packet: &mut [u8],
+    len: usize,
+    replies: &mut PacketCache,
+    reply: &mut Reply,
+) -> Told
+    requires len { len ≤ length packet.old }
+    requires settled { AreSettled store.old.kept replies.old }
+    requires room { 4096 ≤ reply.old.room }
+    ensures gives { (engine : Engine) → StandsFor engine store.old
+        → QueryGives engine tables.now (record { peer = peer; words = words.now }) (take len packet.old)
+        (octets_of result packet.new reply.new.bytes) }
+    ensures there { IsThere result packet.new }
+    ensures same { store.new ≡ store.old }
+    ensures settled { AreSettled store.new.kept replies.new }
+    ensures packet { length packet.new ≡ length packet.old }
+    ensures room { reply.new.room ≡ reply.old.room }
+{
+    known_octets(front(packet, len));
+    let key = key_of(front(packet, len));
+    match replies.answer(key, packet, len) {
+        Some(size) => Told::InPacket(size),
+        None => match made(
+            store,
+            tables,
+            peer,
+            words,
+            front(packet, len),
+            key,
+            replies,
+            reply,
+        ) {
+            Some(_) => Told::InReply,
+            None => Told::Nothing,
+        },
+    }
+}
+
+/// The octets of the reply, where there is one.
+#[inline(always)]
+pub(crate) fn octets_told<'a>(told: Told, packet: &'a [u8], reply: &'a Reply) -> Option<&'a [u8]>
+    requires { IsThere told packet.now }
+    ensures some { IfSome result (λ octets. octets_of told packet.now reply.now.bytes ≡ Some octets.now) }
+    ensures none { result ≡ None → octets_of told packet.now reply.now.bytes ≡ None }
+{
+    match told {
+        Told::Nothing => None,
+        Told::InPacket(size) => Some(front(packet, size)),
+        Told::InReply => Some(reply.bytes()),
+    }
+}
 
 /// Makes the reply to a packet, and says how many octets it has. It is kept where it is the same whoever asks, and
 /// the packet came before.
-// Apart from the way that packets take whose replies are kept.
-#[inline(never)]
-pub(crate) fn made(
+#[inline(always)]
+fn made(
     store: &mut Store,
     tables: &Tables,
     peer: IpAddress,
@@ -49,6 +119,8 @@ pub(crate) fn made(
 }
 
 /// Makes the reply to a packet where it is the same whoever asks, and keeps it; else it notes that it isn't.
+// Apart from the way that most packets take.
+#[inline(never)]
 fn settled(
     store: &mut Store,
     packet: &[u8],
@@ -77,6 +149,6 @@ fn settled(
 }
 
 /// The octets of a slice are octets.
-pub(crate) fn known_octets(octets: &[u8])
+fn known_octets(octets: &[u8])
     ensures { AreOctets octets.now }
 {}

@@ -11,11 +11,11 @@ ghost use Rattle.session_model.specs.Serving.{Datagram, TurnsOutcome};
 use crate::counting::{count_packet, count_quiet, count_report};
 use crate::drawing::draw;
 use crate::observing::observe;
-use crate::replying::{known_octets, made};
+use crate::replying::{octets_told, reply_to};
 use dns_wire::Reply;
 use geo_latency::Tables;
 use octets::front;
-use packet_cache::{PacketCache, key_of};
+use packet_cache::PacketCache;
 use r53_core::Store;
 use r53_io::{Arrival, Link, Peer, Sent};
 use rand_core::Rng;
@@ -135,37 +135,27 @@ fn answer<L: Link, R: Rng>(
     ensures open { result ≢ Turn.Closed }
 {
     let drawn = draw(words);
-    known_octets(front(packet, len));
-    let key = key_of(front(packet, len));
-    match replies.answer(key, packet, len) {
-        Some(size) => match link.send(peer, front(packet, size)) {
+    let told = reply_to(
+        store,
+        tables,
+        peer.address,
+        &drawn,
+        packet,
+        len,
+        replies,
+        reply,
+    );
+    match octets_told(told, packet, reply) {
+        None => {
+            count_packet(turns, false);
+            Turn::Taken
+        }
+        Some(octets) => match link.send(peer, octets) {
             Sent::Whole => {
                 count_packet(turns, true);
                 Turn::Taken
             }
             Sent::Failed => Turn::Failed,
-        },
-        None => match made(
-            store,
-            tables,
-            peer.address,
-            &drawn,
-            front(packet, len),
-            key,
-            replies,
-            reply,
-        ) {
-            None => {
-                count_packet(turns, false);
-                Turn::Taken
-            }
-            Some(_) => match link.send(peer, reply.bytes()) {
-                Sent::Whole => {
-                    count_packet(turns, true);
-                    Turn::Taken
-                }
-                Sent::Failed => Turn::Failed,
-            },
         },
     }
 }
