@@ -1,8 +1,8 @@
 -- The choice among the sets that may apply to a client.
-use Rattle.std.proofs.Common.{◌≡◌, ◌≢◌, ◌≤◌, ◌<◌, ◌+◌, ℕ, suc, List, [], ◌∷◌, ◌++◌, Option, Some, None}
+use Rattle.std.proofs.Common.{◌≡◌, ◌≢◌, ◌≤◌, ◌<◌, ◌+◌, ◌-◌, ℕ, zero, suc, List, [], ◌∷◌, ◌++◌, Option, Some, None}
 use Rattle.std.proofs.Common.{take, length-take-le, length, Bool, true, false, inl, inr, refl, sym, ap, ◌∙◌, subst, arith, length-append}
 use Rattle.std.proofs.lemmas.Bool.{cases_lt}
-use Rattle.std.proofs.lemmas.List.{take_more, take_more_set, length-map, map-append, get_or_append_left}
+use Rattle.std.proofs.lemmas.List.{take_all, take_more, take_more_set, length-map, map-append, get_or_append_left}
 use Rattle.std.proofs.lemmas.Option.{slice_get-map}
 use Rattle.std.proofs.Math.Seq.{get_or-append_seam}
 use Rattle.std.proofs.Math.ListN.{get_or}
@@ -25,7 +25,8 @@ use Rattle.considered_sets.specs.Healthy.{healthy_of}
 use Rattle.geo_latency.specs.Places.{chosen, in_order}
 use Rattle.geo_latency.specs.declared.location.Location.{Location}
 use Rattle.routing.specs.declared.policies.Place.{Place}
-use Rattle.policy_select.specs.Nearby.{AreNoted, IsElsewhere, IsOtherCountry, NearbyDecide, noted}
+use Rattle.policy_select.specs.Nearby.{AreForOthers, AreNoted, IsElsewhere, IsForOtherCountry, IsOtherCountry}
+use Rattle.policy_select.specs.Nearby.{NearbyDecide, noted}
 
 -- ---- lists of numbers below a bound
 
@@ -409,3 +410,53 @@ module _ (client : Option Location) (first : Place) (group : List RecordSet) (fl
       (take (n + 1) (slice_set healthy n flag)) (take (n + 1) (slice_set sets n i))
   set_noted flag said =
       one_noted client (each place_of first group) flags near healthy sets i n place flag its_place said are
+
+-- ---- sets that are passed by
+
+-- one set more is for another country
+pub one_more : (country : ℕ) (first : Place) (sets : List RecordSet) (from i : ℕ)
+    → AreForOthers country first sets from i → IsForOtherCountry country first sets i
+    → AreForOthers country first sets from (i + 1)
+one_more country first sets from i others it k low high = elim (cases_lt k i) [
+  | inl less ↦ others k low less
+  | inr last ↦
+      let same : i ≡ k = omega (arith, last, high) in
+      subst (λ (j : ℕ). IsForOtherCountry country first sets j) same it
+]
+
+module _ (client : Option Location) (country : ℕ) (is : country ≡ wanted client) (first : Place)
+    (group : List RecordSet) (flags : List Bool) (many : length flags ≡ length group)
+    (near : List Place) (healthy : List Bool) (sets : List ℕ) (n : ℕ) where
+  abbrev NotedTo : ℕ → Type 0
+  NotedTo i = AreNoted client (take i (each place_of first group)) (take i flags) (take n near) (take n healthy)
+      (take n sets)
+
+  one_passed : (i : ℕ) → IsForOtherCountry country first group i → NotedTo i → NotedTo (i + 1)
+  one_passed i it are =
+      set_passed client first group flags near healthy sets i n it.0 it.1 are many
+      (elsewhere client country (unwrap_or (place_of it.0.routing) first) is it.2)
+
+  passed_on : (d i : ℕ) → AreForOthers country first group i (i + d) → NotedTo i → NotedTo (i + d)
+  passed_on zero i others are =
+      let none : i ≡ i + 0 = omega arith in
+      subst NotedTo none are
+  passed_on (suc d) i others are =
+      let same : i + 1 + d ≡ i + suc d = omega arith in
+      subst NotedTo same
+      (passed_on d (i + 1) (λ k low high. others k (omega (arith, low)) (omega (arith, high)))
+      (one_passed i (others i (omega arith) (omega arith)) are))
+
+  pub passed_to : (i j : ℕ) → i ≤ j → AreForOthers country first group i j → NotedTo i → NotedTo j
+  passed_to i j low others are =
+      let same : i + (j - i) ≡ j = omega (arith, low) in
+      subst NotedTo same
+      (passed_on (j - i) i (λ k first_on high. others k first_on (omega (arith, high, low))) are)
+
+  pub all_are_noted : (m : ℕ) → length group ≤ m → NotedTo m
+      → AreNoted client (each place_of first group) flags (take n near) (take n healthy) (take n sets)
+  all_are_noted m all are =
+      let size = length-map group (λ (s : RecordSet). unwrap_or (place_of s.routing) first) in
+      subst (λ (ps : List Place). AreNoted client ps flags (take n near) (take n healthy) (take n sets))
+      (take_all m (each place_of first group) (omega (arith, size, all)))
+      (subst (λ (fs : List Bool). AreNoted client (take m (each place_of first group)) fs (take n near)
+      (take n healthy) (take n sets)) (take_all m flags (omega (arith, many, all))) are)

@@ -1,13 +1,16 @@
 -- The sets of a geolocation group that may apply to a client, and those that are for another country.
-use Rattle.std.specs.Prelude.{◌≡◌, ◌≢◌, ◌<◌, ℕ, Bool, false, Option, Some, None, List, [], ◌∷◌, length, map}
-use Rattle.std.specs.Option.{option_map}
+use Rattle.std.specs.Prelude.{◌≡◌, ◌≢◌, ◌<◌, ◌≤◌, ℕ, Bool, false, Option, Some, None, List, [], ◌∷◌, length, map}
+use Rattle.std.specs.Prelude.{slice_get}
+use Rattle.std.specs.Option.{option_map, unwrap_or}
 use Rattle.std.proofs.Math.ListN.{get_or}
+use Rattle.answer_model.specs.Policies.{place_of}
 use Rattle.considered_sets.specs.Considered.{places_from}
 use Rattle.geo_latency.specs.Nearest.{code_number}
 use Rattle.geo_latency.specs.Places.{chosen, in_order}
 use Rattle.geo_latency.specs.declared.location.Location.{Location}
 use Rattle.routing.specs.declared.policies.Place.{Place}
 use Rattle.routing.specs.declared.policies.Place.TheVariants.{Country}
+use Rattle.zone_table.specs.RecordSetRecord.{RecordSet}
 
 -- a place of a group, by its number among the noted sets
 abbrev pub noted : (sets : List ℕ) → ℕ → ℕ
@@ -23,6 +26,18 @@ IsOtherCountry country place =
 abbrev pub TellsNear : (country : ℕ) → Place → Option Place → Type 0
 TellsNear country place None = IsOtherCountry country place
 TellsNear country place (Some told) = told ≡ place
+
+-- The set at a place of some is for a country other than the one of this number, where the first one
+-- stands for each that has no place.
+abbrev pub IsForOtherCountry : (country : ℕ) → (first : Place) → List RecordSet → (i : ℕ) → Type 0
+IsForOtherCountry country first sets i =
+    (set : RecordSet) × (slice_get sets i ≡ Some set)
+    × IsOtherCountry country (unwrap_or (place_of set.routing) first)
+
+-- So are all from one place to another.
+abbrev pub AreForOthers : (country : ℕ) → (first : Place) → List RecordSet → (from until : ℕ) → Type 0
+AreForOthers country first sets from until =
+    (i : ℕ) → from ≤ i → i < until → IsForOtherCountry country first sets i
 
 -- Alone in a group, a set with this place would not answer the client.
 abbrev pub IsElsewhere : Option Location → Place → Type 0

@@ -1,6 +1,6 @@
 //! The choices of the policies, over lists of what the sets of a group say.
 
-ghost use Rattle.std.specs.Prelude.{◌≡◌, ◌<◌, ◌≤◌, IfSome, length};
+ghost use Rattle.std.specs.Prelude.{◌≡◌, ◌<◌, ◌≤◌, IfSome, IsSome, length};
 ghost use Rattle.std.specs.Option.{option_copied, option_map};
 ghost use Rattle.answer_model.specs.Choice.{each};
 ghost use Rattle.answer_model.specs.Policies.{location_of, place_of, region_of, role_of, weight_of};
@@ -37,6 +37,11 @@ const GROUP: usize = 100;
 /// The sets of most groups. Room for the regions of more takes thousands of octets, which are all
 /// filled.
 const FEW: usize = 24;
+
+/// The sets of most geolocation groups that may apply to one client: those for its country, for
+/// continents, for subdivisions and for anywhere. Where more may, they are walked again in room for
+/// all.
+const NEAR: usize = 16;
 
 /// Chooses from a weighted group.
 pub(crate) fn choose_weighted<V: HealthView>(
@@ -109,50 +114,28 @@ pub(crate) fn choose_place<V: HealthView>(
     ensures scope { result.1 ≡ scope_in tables.now.places client }
 {
     let (location, scope) = location_of(tables, client);
-    if group.length <= FEW {
-        return (place_of_few(zones, group, view, first, location, at), scope);
-    }
-    (
-        place_of_many(zones, group, view, first, location, at),
-        scope,
-    )
-}
-
-/// Chooses from a geolocation group of few sets by the location of the client.
-#[inline(always)]
-fn place_of_few<V: HealthView>(
-    zones: &Zones,
-    group: Group,
-    view: &V,
-    first: &Place,
-    location: Option<&Location>,
-    at: usize,
-) -> Option<usize>
-    requires group { IsGroupNow zones.now.zones group }
-    requires at { PoliciesAreAt (sets_in zones.now.zones group) at }
-    requires few { group.length ≤ 24 }
-    ensures { result
-        ≡ place_chosen (each place_of first.now (sets_in zones.now.zones group))
-        (flags_in zones.now.zones (V.test view.now) group) (option_copied location.entry) }
-{
-    let slots = zones.slots_of(group);
-    // Of zeros, which are made at once.
-    let mut places = [Place::Continent(Continent::Af); FEW];
-    nearest_place(
+    let nearest = nearest_place(
         zones,
         group,
-        slots,
         view,
         first,
         location,
         at,
-        &mut places,
-        &mut [false; FEW],
-        &mut [0; FEW],
-    )
+        // Of zeros, which are made at once.
+        &mut [Place::Continent(Continent::Af); NEAR],
+        &mut [false; NEAR],
+        &mut [0; NEAR],
+    );
+    match nearest {
+        Some(set) => (set, scope),
+        None => (
+            place_of_many(zones, group, view, first, location, at),
+            scope,
+        ),
+    }
 }
 
-/// The same from a group of many sets.
+/// Chooses from a geolocation group by the location of the client, in room for all of its sets.
 // Apart, so that others pass by the room for so many places.
 #[inline(never)]
 fn place_of_many<V: HealthView>(
@@ -170,29 +153,29 @@ fn place_of_many<V: HealthView>(
         ≡ place_chosen (each place_of first.now (sets_in zones.now.zones group))
         (flags_in zones.now.zones (V.test view.now) group) (option_copied location.entry) }
 {
-    let slots = zones.slots_of(group);
-    let mut places = [Place::Continent(Continent::Af); GROUP];
-    nearest_place(
+    let nearest = nearest_place(
         zones,
         group,
-        slots,
         view,
         first,
         location,
         at,
-        &mut places,
+        &mut [Place::Continent(Continent::Af); GROUP],
         &mut [false; GROUP],
         &mut [0; GROUP],
-    )
+    );
+    match nearest {
+        Some(set) => set,
+        None => unreachable!(),
+    }
 }
 
 /// Chooses from a geolocation group by the location of the client, in room for the sets that may
-/// apply to it.
+/// apply to it. None where more of them may apply than there is room for.
 #[inline(always)]
 fn nearest_place<V: HealthView>(
     zones: &Zones,
     group: Group,
-    slots: &[u32],
     view: &V,
     first: &Place,
     location: Option<&Location>,
@@ -200,22 +183,25 @@ fn nearest_place<V: HealthView>(
     places: &mut [Place],
     healthy: &mut [bool],
     sets: &mut [usize],
-) -> Option<usize>
+) -> Option<Option<usize>>
     requires group { IsGroupNow zones.now.zones group }
-    requires slots { AreMembers zones.now.zones group slots.now at }
-    requires places { group.length ≤ length places.old }
-    requires healthy { group.length ≤ length healthy.old }
-    requires sets { group.length ≤ length sets.old }
-    ensures { result
+    requires at { PoliciesAreAt (sets_in zones.now.zones group) at }
+    requires healthy { length places.old ≤ length healthy.old }
+    requires sets { length places.old ≤ length sets.old }
+    ensures nearest { IfSome result (λ set. set
         ≡ place_chosen (each place_of first.now (sets_in zones.now.zones group))
-        (flags_in zones.now.zones (V.test view.now) group) (option_copied location.entry) }
+        (flags_in zones.now.zones (V.test view.now) group) (option_copied location.entry)) }
+    ensures room { group.length ≤ length places.old → IsSome result }
 {
     nearby_decide();
-    let count = note_near(
+    let slots = zones.slots_of(group);
+    let Some(count) = note_near(
         zones, group, slots, view, at, first, location, places, healthy, sets,
-    );
+    ) else {
+        return None;
+    };
     let nearest = answer_model::choose_place(&places[..count], &healthy[..count], location);
-    place_noted(nearest, &sets[..count])
+    Some(place_noted(nearest, &sets[..count]))
 }
 
 /// The place in the group of a noted set.

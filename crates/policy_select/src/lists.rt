@@ -1,13 +1,14 @@
 //! What the sets of a group say, set by set, as lists for the choices. What the first set says is
 //! known where it tells the policy.
 
-ghost use Rattle.std.specs.Prelude.{◌≡◌, ◌<◌, ◌≤◌, length, take};
+ghost use Rattle.std.specs.Prelude.{◌≡◌, ◌<◌, ◌≤◌, IfSome, IsSome, length, take};
 ghost use Rattle.answer_model.specs.Choice.{each};
 ghost use Rattle.answer_model.specs.Policies.{location_of, place_of, region_of, role_of, weight_of};
 ghost use Rattle.zone_table.specs.Looking.{IsGroupNow, slots_in};
-ghost use Rattle.std.specs.Option.{option_copied};
+ghost use Rattle.std.specs.Option.{option_copied, unwrap_or};
+ghost use Rattle.routing.specs.declared.policies.Place.{Place};
 ghost use Rattle.policy_select.specs.Members.{AreMembers};
-ghost use Rattle.policy_select.specs.Nearby.{AreNoted};
+ghost use Rattle.policy_select.specs.Nearby.{AreForOthers, AreNoted};
 ghost use Rattle.policy_select.specs.Groups.{flags_in, sets_in};
 ghost use Rattle.policy_select.specs.Rules.{FirstSays};
 ghost use Rattle.policy_select.specs.Soonest.{slow_each};
@@ -16,7 +17,8 @@ use crate::group::{is_member_healthy, routing_at};
 use crate::near::country_of;
 use crate::parts::location_or;
 use crate::said::{
-    near_place_of_member, region_of_member, role_of_member, slowness_of_member, weight_of_member,
+    is_passed_by, near_place_of_member, region_of_member, role_of_member, slowness_of_member,
+    weight_of_member,
 };
 use crate::view::HealthView;
 use answer_model::{Latencies, Location};
@@ -91,9 +93,38 @@ pub(crate) fn note_roles(
     }
 }
 
+/// The first set of a geolocation group from a place on that may apply to a client of the country of
+/// this number, and none where all of them are for other countries. Where the identifier of a set is
+/// long, it may be for another country too.
+// Nothing is written and nobody asked in this walk, so that where the sets stand is loaded once.
+#[inline(always)]
+fn next_near(
+    zones: &Zones,
+    group: &Group,
+    slots: &[u32],
+    at: usize,
+    from: usize,
+    country: u32,
+) -> Option<usize>
+    requires group { IsGroupNow zones.now.zones group.now }
+    requires slots { AreMembers zones.now.zones group.now slots.now at }
+    requires within { from ≤ group.now.length }
+    ensures found { IfSome result (λ i. (from ≤ i) × (i < group.now.length)) }
+    ensures passed { (first : Place) → AreForOthers country first
+        (sets_in zones.now.zones group.now) from (unwrap_or result group.now.length) }
+{
+    for i in from..group.length {
+        if !is_passed_by(zones, group, slots, at, i, country) {
+            return Some(i);
+        }
+    }
+    None
+}
+
 /// Notes of a geolocation group the sets that may apply to the client, which a set for another
 /// country doesn't: their places, which of them are healthy, and where they stand in the group. The
-/// answer is how many they are. Nobody is asked for the health of the others.
+/// answer is how many they are, and none where there is no room for them. Nobody is asked for the
+/// health of the others.
 pub(crate) fn note_near<V: HealthView>(
     zones: &Zones,
     group: Group,
@@ -105,33 +136,38 @@ pub(crate) fn note_near<V: HealthView>(
     places: &mut [Place],
     healthy: &mut [bool],
     sets: &mut [usize],
-) -> usize
+) -> Option<usize>
     requires group { IsGroupNow zones.now.zones group }
     requires slots { AreMembers zones.now.zones group slots.now at }
-    requires places { group.length ≤ length places.old }
-    requires healthy { group.length ≤ length healthy.old }
-    requires sets { group.length ≤ length sets.old }
-    ensures noted { AreNoted (option_copied client.entry)
+    requires healthy { length places.old ≤ length healthy.old }
+    requires sets { length places.old ≤ length sets.old }
+    ensures noted { IfSome result (λ count. AreNoted (option_copied client.entry)
         (each place_of first.now (sets_in zones.now.zones group))
         (flags_in zones.now.zones (V.test view.now) group)
-        (take result places.new) (take result healthy.new) (take result sets.new) }
-    ensures count { result ≤ group.length }
+        (take count places.new) (take count healthy.new) (take count sets.new)) }
+    ensures count { IfSome result (λ count. count ≤ length places.new) }
+    ensures room { group.length ≤ length places.old → IsSome result }
     ensures places { length places.new ≡ length places.old }
     ensures healthy { length healthy.new ≡ length healthy.old }
     ensures sets { length sets.new ≡ length sets.old }
 {
     let country = country_of(client);
     let mut count = 0;
-    for i in 0..group.length {
+    let mut from = 0;
+    while let Some(i) = next_near(zones, &group, slots, at, from, country) {
+        from = i + 1;
         let Some(place) = near_place_of_member(zones, &group, slots, at, i, first, country) else {
             continue;
         };
+        if count == places.len() {
+            return None;
+        }
         places[count] = place;
         healthy[count] = is_member_healthy(zones, group, slots, view, i);
         sets[count] = i;
         count += 1;
     }
-    count
+    Some(count)
 }
 
 /// Notes the regions of a group.

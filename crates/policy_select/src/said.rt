@@ -4,7 +4,7 @@
 //! front, and what stands behind the identifier. The policy is copied only where that doesn't tell
 //! it.
 
-ghost use Rattle.std.specs.Prelude.{◌≡◌, ◌<◌, slice_get, Some};
+ghost use Rattle.std.specs.Prelude.{◌≡◌, ◌<◌, slice_get, IsTrue, Some};
 ghost use Rattle.std.specs.Option.{option_copied, unwrap_or};
 ghost use Rattle.answer_model.specs.Policies.{place_of, region_of, role_of, weight_of};
 ghost use Rattle.geo_latency.specs.Regions.{slowness};
@@ -12,7 +12,8 @@ ghost use Rattle.zone_table.specs.Looking.{IsGroupNow};
 ghost use Rattle.zone_table.specs.RecordSetRecord.{RecordSet};
 ghost use Rattle.policy_select.specs.Groups.{sets_in};
 ghost use Rattle.policy_select.specs.Members.{AreMembers};
-ghost use Rattle.policy_select.specs.Nearby.{TellsNear};
+ghost use Rattle.policy_select.specs.Nearby.{IsForOtherCountry, TellsNear};
+ghost use Rattle.routing.specs.declared.policies.Place.{Place};
 
 use crate::group::{MOST, policy_copied, policy_pieces};
 use crate::parts::{
@@ -115,9 +116,34 @@ fn role_copied(
     )
 }
 
-/// The place of the set at a place of a group, and that of the first one where the set has none.
-/// None where it is a country other than the one of this number.
+/// Whether the set at a place of a group is for a country other than the one of this number, as most
+/// sets of a large group are. Where its identifier is long this isn't told here.
 #[inline(always)]
+pub(crate) fn is_passed_by(
+    zones: &Zones,
+    group: &Group,
+    slots: &[u32],
+    at: usize,
+    i: usize,
+    country: u32,
+) -> bool
+    requires group { IsGroupNow zones.now.zones group.now }
+    requires slots { AreMembers zones.now.zones group.now slots.now at }
+    requires within { i < group.now.length }
+    ensures { IsTrue result → (first : Place)
+        → IsForOtherCountry country first (sets_in zones.now.zones group.now) i }
+{
+    let (front, next) = policy_pieces(zones, *group, slots, at, i);
+    let Some(size) = ident_size(front, 3) else {
+        return false;
+    };
+    is_other_country(behind_ident(front, next, size), 0, country)
+}
+
+/// The place of the set at a place of a group, and that of the first one where the set has none.
+/// None where it is a country other than the one of this number, and a copy of the policy told it.
+// Apart, since most sets are passed by.
+#[inline(never)]
 pub(crate) fn near_place_of_member(
     zones: &Zones,
     group: &Group,
@@ -137,11 +163,7 @@ pub(crate) fn near_place_of_member(
     let Some(size) = ident_size(front, 3) else {
         return near_place_copied(zones, group, slots, at, i, first, country);
     };
-    let piece = behind_ident(front, next, size);
-    if is_other_country(piece, 0, country) {
-        return None;
-    }
-    match place_whole(piece) {
+    match place_whole(behind_ident(front, next, size)) {
         Some(place) => Some(place),
         None => near_place_copied(zones, group, slots, at, i, first, country),
     }

@@ -1,4 +1,4 @@
-use Rattle.std.proofs.Common.{◌+◌, arith, sym, subst, take}
+use Rattle.std.proofs.Common.{◌+◌, arith, length-set, sym, subst, take}
 use Rattle.std.specs.Prelude.{slice_set}
 use Rattle.std.specs.Option.{option_copied, unwrap_or}
 use Rattle.answer_model.specs.Choice.{each}
@@ -7,59 +7,103 @@ use Rattle.routing.specs.declared.policies.Place.{Place}
 use Rattle.policy_select.specs.Groups.{flags_in, sets_in}
 use Rattle.policy_select.specs.Nearby.{AreNoted, TellsNear}
 use Rattle.policy_select.proofs.Choosing.{same_length}
-use Rattle.policy_select.proofs.Nearby.{elsewhere, set_noted, set_passed}
+use Rattle.policy_select.proofs.Nearby.{all_are_noted, elsewhere, passed_to, set_noted, set_passed}
+use Rattle.policy_select.proofs.Noted.{few_sets}
 use Rattle.policy_select.proofs.lists.note_near.Goals as goal
 
-pub loop-i-preserved-in_default : goal.loop-i-preserved-in_default
-loop-i-preserved-in_default g c =
+pub loop-i-smaller-in_default-near_place_of_member : goal.loop-i-smaller-in_default-near_place_of_member
+loop-i-smaller-in_default-near_place_of_member g c =
+    let found = c.in-Some.ensures.found in
+    omega (arith, found.0, found.1)
+
+pub loop-i-preserved-in_default-near_place_of_member :
+    goal.loop-i-preserved-in_default-near_place_of_member
+loop-i-preserved-in_default-near_place_of_member g c =
     let client = option_copied c.args.client in
     let first = c.args.first.now in
     let sets = sets_in c.args.zones.now.zones c.args.group in
     let test = g.V.HealthView.test c.args.view.now in
     let flags = flags_in c.args.zones.now.zones test c.args.group in
     let l = c.loop-i in
-    let it = c.near_place_of_member.ensures in
-    let other = subst (TellsNear c.country_of-country.result (unwrap_or (place_of it.0.routing) first))
-    c.in_default.is it.2 in
+    let country = c.country_of-country.result in
+    let many = same_length c.args.zones.now.zones test c.args.group in
+    let i = c.in-Some.i in
+    let found = c.in-Some.ensures.found in
     let few = l.invariant.few in
+    let it = c.near_place_of_member.ensures in
+    let other = subst (TellsNear country (unwrap_or (place_of it.0.routing) first))
+    c.in_default-near_place_of_member.is it.2 in
     record {
-      few = omega (arith, few);
+      within = omega (arith, found.1);
+      few = omega (arith, few, found.0);
+      room = l.invariant.room;
       noted =
-          set_passed client first sets flags l.places l.healthy l.sets l.i l.count it.0 it.1
-          l.invariant.noted (same_length c.args.zones.now.zones test c.args.group)
-          (elsewhere client c.country_of-country.result (unwrap_or (place_of it.0.routing) first)
-          c.country_of-country.ensures other);
+          set_passed client first sets flags l.places l.healthy l.sets i l.count it.0 it.1
+          (passed_to client country c.country_of-country.ensures first sets flags many l.places l.healthy l.sets
+          l.count l.from i found.0 (c.in-Some.ensures.passed first) l.invariant.noted)
+          many
+          (elsewhere client country (unwrap_or (place_of it.0.routing) first) c.country_of-country.ensures other);
     }
+
+pub loop-i-smaller : goal.loop-i-smaller
+loop-i-smaller g c =
+    let found = c.in-Some.ensures.found in
+    omega (arith, found.0, found.1)
 
 pub loop-i-preserved : goal.loop-i-preserved
 loop-i-preserved g c =
     let client = option_copied c.args.client in
     let first = c.args.first.now in
     let sets = sets_in c.args.zones.now.zones c.args.group in
-    let flags = flags_in c.args.zones.now.zones (g.V.HealthView.test c.args.view.now) c.args.group in
+    let test = g.V.HealthView.test c.args.view.now in
+    let flags = flags_in c.args.zones.now.zones test c.args.group in
     let l = c.loop-i in
-    let it = c.near_place_of_member.ensures in
-    let says = subst (TellsNear c.country_of-country.result (unwrap_or (place_of it.0.routing) first))
-    c.in-Some.is it.2 in
+    let country = c.country_of-country.result in
+    let many = same_length c.args.zones.now.zones test c.args.group in
+    let i = c.in-Some.i in
+    let found = c.in-Some.ensures.found in
     let few = l.invariant.few in
-    let within = c.loop-i-test.true in
+    let room = l.invariant.room in
+    let more = c.if-count-places.false in
+    let it = c.near_place_of_member.ensures in
+    let says = subst (TellsNear country (unwrap_or (place_of it.0.routing) first))
+    c.in-Some-near_place_of_member.is it.2 in
     let long_places = l.auto.places in
     let long_healthy = l.auto.healthy in
     let long_sets = l.auto.sets in
-    let room_places = c.requires.places in
     let room_healthy = c.requires.healthy in
     let room_sets = c.requires.sets in
     let n = l.count in
+    let size = length-set l.places n c.in-Some-near_place_of_member.place in
     record {
-      few = omega (arith, few);
+      within = omega (arith, found.1);
+      few = omega (arith, few, found.0);
+      room = omega (arith, room, more, size);
       noted =
           subst
-          (λ (p : Place). AreNoted client (take (l.i + 1) (each place_of first sets)) (take (l.i + 1) flags)
+          (λ (p : Place). AreNoted client (take (i + 1) (each place_of first sets)) (take (i + 1) flags)
           (take (n + 1) (slice_set l.places n p)) (take (n + 1) (slice_set l.healthy n c.is_member_healthy.result))
-          (take (n + 1) (slice_set l.sets n l.i))) (sym says)
-          (set_noted client first sets flags l.places l.healthy l.sets l.i n it.0 it.1 l.invariant.noted
+          (take (n + 1) (slice_set l.sets n i))) (sym says)
+          (set_noted client first sets flags l.places l.healthy l.sets i n it.0 it.1
+          (passed_to client country c.country_of-country.ensures first sets flags many l.places l.healthy l.sets
+          n l.from i found.0 (c.in-Some.ensures.passed first) l.invariant.noted)
           c.is_member_healthy.result c.is_member_healthy.ensures
-          (omega (arith, few, within, long_places, room_places))
-          (omega (arith, few, within, long_healthy, room_healthy))
-          (omega (arith, few, within, long_sets, room_sets)));
+          (omega (arith, room, more))
+          (omega (arith, room, more, long_places, long_healthy, room_healthy))
+          (omega (arith, room, more, long_places, long_sets, room_sets)));
     }
+
+pub returns-clause-noted : goal.returns-clause-noted
+returns-clause-noted g c =
+    let client = option_copied c.args.client in
+    let first = c.args.first.now in
+    let sets = sets_in c.args.zones.now.zones c.args.group in
+    let test = g.V.HealthView.test c.args.view.now in
+    let flags = flags_in c.args.zones.now.zones test c.args.group in
+    let l = c.loop-i in
+    let country = c.country_of-country.result in
+    let many = same_length c.args.zones.now.zones test c.args.group in
+    all_are_noted client country c.country_of-country.ensures first sets flags many l.places l.healthy l.sets
+    l.count c.args.group.length (few_sets c.args.zones.now.zones c.args.group)
+    (passed_to client country c.country_of-country.ensures first sets flags many l.places l.healthy l.sets
+    l.count l.from c.args.group.length l.invariant.within (c.in_default.ensures.passed first) l.invariant.noted)

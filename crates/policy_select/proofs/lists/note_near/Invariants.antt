@@ -1,4 +1,4 @@
-use Rattle.std.proofs.Common.{◌≤◌, take}
+use Rattle.std.proofs.Common.{◌≤◌, ◌-◌, length, take}
 use Rattle.std.specs.Option.{option_copied}
 use Rattle.answer_model.specs.Choice.{each}
 use Rattle.answer_model.specs.Policies.{place_of}
@@ -8,8 +8,13 @@ use Rattle.policy_select.proofs.lists.note_near.Given as goal
 
 abbrev pub invariant-loop-i : goal.invariant-loop-i
 invariant-loop-i g l = record {
-  few : l.count ≤ l.i;
-  noted : AreNoted (option_copied l.client) (take l.i (each place_of l.first (sets_in l.zones.zones l.group)))
-      (take l.i (flags_in l.zones.zones (g.V.HealthView.test l.view) l.group))
+  within : l.from ≤ l.group.length;
+  few : l.count ≤ l.from;
+  room : l.count ≤ length l.places;
+  noted : AreNoted (option_copied l.client) (take l.from (each place_of l.first (sets_in l.zones.zones l.group)))
+      (take l.from (flags_in l.zones.zones (g.V.HealthView.test l.view) l.group))
       (take l.count l.places) (take l.count l.healthy) (take l.count l.sets);
 }
+
+abbrev pub decreases-loop-i : goal.decreases-loop-i
+decreases-loop-i g l = l.group.length - l.from
