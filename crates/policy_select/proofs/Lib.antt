@@ -7,6 +7,7 @@ pub mod Noted
 mod Pieces
 mod Policies
 mod LeastSlow
+mod Settled
 pub mod Targets
 pub use Rattle.zone_table.proofs.Listing
 pub use Rattle.zone_table.proofs.Looked

@@ -25,12 +25,13 @@ use Rattle.considered_sets.specs.Healthy.{healthy_of}
 use Rattle.geo_latency.specs.Places.{chosen, in_order}
 use Rattle.geo_latency.specs.declared.location.Location.{Location}
 use Rattle.routing.specs.declared.policies.Place.{Place}
-use Rattle.policy_select.specs.Nearby.{AreForOthers, AreNoted, IsElsewhere, IsForOtherCountry, IsOtherCountry}
+use Rattle.policy_select.specs.Nearby.{AreForOthers, AreNoted, IsElsewhere, IsEnough, IsForOtherCountry}
+use Rattle.policy_select.specs.Nearby.{IsOtherCountry}
 use Rattle.policy_select.specs.Nearby.{NearbyDecide, noted}
 
 -- ---- lists of numbers below a bound
 
-abbrev Below : ℕ → List ℕ → Type 0
+abbrev pub Below : ℕ → List ℕ → Type 0
 Below n xs = AllByRecursion (λ k. k < n) xs
 
 below_more : (m n : ℕ) (xs : List ℕ) → m ≤ n → Below m xs → Below n xs
@@ -103,20 +104,20 @@ map_cond f false k = refl
 -- ---- the choice
 
 -- the sets that pass a test, in the group's order
-abbrev passing : (Place → Bool) → List Place → List ℕ
+abbrev pub passing : (Place → Bool) → List Place → List ℕ
 passing test xs = places_from 0 (map test xs)
 
 -- the sets that pass one of four tests, test by test
-abbrev in_turn : (a b c d : Place → Bool) → List Place → List ℕ
+abbrev pub in_turn : (a b c d : Place → Bool) → List Place → List ℕ
 in_turn a b c d xs = passing a xs ++ (passing b xs ++ (passing c xs ++ passing d xs))
 
-passing_low : (test : Place → Bool) (xs : List Place) → Below (length xs) (passing test xs)
+pub passing_low : (test : Place → Bool) (xs : List Place) → Below (length xs) (passing test xs)
 passing_low test xs =
     let size = length-map xs test in
     below_more (0 + length (map test xs)) (length xs) (passing test xs) (omega (arith, size))
     (below_from 0 (map test xs))
 
-passing_more : (test : Place → Bool) (xs : List Place) (place : Place)
+pub passing_more : (test : Place → Bool) (xs : List Place) (place : Place)
     → passing test (xs ++ place ∷ []) ≡ passing test xs ++ cond (test place) (length xs ∷ []) []
 passing_more test xs place =
     let size = length-map xs test in
@@ -333,7 +334,7 @@ elsewhere client country place is (letters, its, differ) =
 
 -- ---- as the lists are noted
 
-more_at : {X : Type 0} (xs : List X) (i : ℕ) (x : X) → slice_get xs i ≡ Some x
+pub more_at : {X : Type 0} (xs : List X) (i : ℕ) (x : X) → slice_get xs i ≡ Some x
     → take (i + 1) xs ≡ take i xs ++ x ∷ []
 more_at xs i x at =
     take_more xs i x (slice_get_within xs i x at)
@@ -452,11 +453,40 @@ module _ (client : Option Location) (country : ℕ) (is : country ≡ wanted cli
       subst NotedTo same
       (passed_on (j - i) i (λ k first_on high. others k first_on (omega (arith, high, low))) are)
 
-  pub all_are_noted : (m : ℕ) → length group ≤ m → NotedTo m
-      → AreNoted client (each place_of first group) flags (take n near) (take n healthy) (take n sets)
-  all_are_noted m all are =
+  -- a set more is noted behind those that were passed by
+  pub noted_on : (from i : ℕ) (set : RecordSet) (told : Place) (flag : Bool) → slice_get group i ≡ Some set
+      → told ≡ unwrap_or (place_of set.routing) first → slice_get flags i ≡ Some flag
+      → n < length near → n < length healthy → n < length sets
+      → from ≤ i → AreForOthers country first group from i → NotedTo from
+      → AreNoted client (take (i + 1) (each place_of first group)) (take (i + 1) flags)
+      (take (n + 1) (slice_set near n told)) (take (n + 1) (slice_set healthy n flag))
+      (take (n + 1) (slice_set sets n i))
+  noted_on from i set told flag at says said room_a room_b room_c low others are =
+      subst
+      (λ (p : Place). AreNoted client (take (i + 1) (each place_of first group)) (take (i + 1) flags)
+      (take (n + 1) (slice_set near n p)) (take (n + 1) (slice_set healthy n flag))
+      (take (n + 1) (slice_set sets n i))) (sym says)
+      (set_noted client first group flags near healthy sets i n set at (passed_to from i low others are) flag said
+      room_a room_b room_c)
+
+  pub all_are_enough : (m : ℕ) → length group ≤ m → NotedTo m
+      → IsEnough client (each place_of first group) flags (take n near) (take n healthy) (take n sets)
+  all_are_enough m all are =
       let size = length-map group (λ (s : RecordSet). unwrap_or (place_of s.routing) first) in
-      subst (λ (ps : List Place). AreNoted client ps flags (take n near) (take n healthy) (take n sets))
-      (take_all m (each place_of first group) (omega (arith, size, all)))
-      (subst (λ (fs : List Bool). AreNoted client (take m (each place_of first group)) fs (take n near)
-      (take n healthy) (take n sets)) (take_all m flags (omega (arith, many, all))) are)
+      let whole = take_all m (each place_of first group) (omega (arith, size, all)) in
+      let whole_flags = take_all m flags (omega (arith, many, all)) in (
+        m,
+        are,
+        ap (λ (ps : List Place). chosen ps (take m flags) client) whole
+            ∙ ap (λ (fs : List Bool). chosen (each place_of first group) fs client) whole_flags,
+      )
+
+-- ---- the choice among what is noted
+
+pub chosen_noted : (client : Option Location) (places : List Place) (flags : List Bool)
+    (near : List Place) (healthy : List Bool) (sets : List ℕ) (nearest result : Option ℕ)
+    → IsEnough client places flags near healthy sets → nearest ≡ chosen near healthy client
+    → result ≡ option_map (noted sets) nearest → result ≡ chosen places flags client
+chosen_noted client places flags near healthy sets nearest result (n, are, decide) is says =
+    says ∙ ap (option_map (noted sets)) is
+    ∙ sym (nearby_decide client (take n places) (take n flags) near healthy sets are) ∙ decide

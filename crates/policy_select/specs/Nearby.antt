@@ -1,6 +1,6 @@
 -- The sets of a geolocation group that may apply to a client, and those that are for another country.
 use Rattle.std.specs.Prelude.{◌≡◌, ◌≢◌, ◌<◌, ◌≤◌, ℕ, Bool, false, Option, Some, None, List, [], ◌∷◌, length, map}
-use Rattle.std.specs.Prelude.{slice_get}
+use Rattle.std.specs.Prelude.{slice_get, take}
 use Rattle.std.specs.Option.{option_map, unwrap_or}
 use Rattle.std.proofs.Math.ListN.{get_or}
 use Rattle.answer_model.specs.Policies.{place_of}
@@ -65,3 +65,20 @@ NearbyDecide = (client : Option Location) (places : List Place) (flags : List Bo
     (near : List Place) (healthy : List Bool) (sets : List ℕ)
     → AreNoted client places flags near healthy sets
     → chosen places flags client ≡ option_map (noted sets) (chosen near healthy client)
+
+-- A place is the client's country, of which no subdivision is told.
+abbrev pub Settles : Option Location → Place → Type 0
+Settles client place =
+    (told : Location) × (code : List ℕ) × (client ≡ Some told) × (told.subdivision ≡ None)
+    × (told.country ≡ Some code) × (place ≡ Country code)
+
+-- The choice among the first sets is that among all of them.
+abbrev pub FirstDecide : Option Location → List Place → List Bool → (n : ℕ) → Type 0
+FirstDecide client places flags n = chosen (take n places) (take n flags) client ≡ chosen places flags client
+
+-- So many first sets are noted, and they decide.
+abbrev pub IsEnough : Option Location → List Place → List Bool → (near : List Place)
+    → (healthy : List Bool) → (sets : List ℕ) → Type 0
+IsEnough client places flags near healthy sets =
+    (n : ℕ) × AreNoted client (take n places) (take n flags) near healthy sets
+    × FirstDecide client places flags n

@@ -8,13 +8,13 @@ ghost use Rattle.zone_table.specs.Looking.{IsGroupNow, slots_in};
 ghost use Rattle.std.specs.Option.{option_copied, unwrap_or};
 ghost use Rattle.routing.specs.declared.policies.Place.{Place};
 ghost use Rattle.policy_select.specs.Members.{AreMembers};
-ghost use Rattle.policy_select.specs.Nearby.{AreForOthers, AreNoted};
+ghost use Rattle.policy_select.specs.Nearby.{AreForOthers, IsEnough};
 ghost use Rattle.policy_select.specs.Groups.{flags_in, sets_in};
 ghost use Rattle.policy_select.specs.Rules.{FirstSays};
 ghost use Rattle.policy_select.specs.Soonest.{slow_each};
 
 use crate::group::{is_member_healthy, routing_at};
-use crate::near::country_of;
+use crate::near::{country_of, settles};
 use crate::parts::location_or;
 use crate::said::{
     is_passed_by, near_place_of_member, region_of_member, role_of_member, slowness_of_member,
@@ -122,9 +122,9 @@ fn next_near(
 }
 
 /// Notes of a geolocation group the sets that may apply to the client, which a set for another
-/// country doesn't: their places, which of them are healthy, and where they stand in the group. The
-/// answer is how many they are, and none where there is no room for them. Nobody is asked for the
-/// health of the others.
+/// country doesn't: their places, which of them are healthy, and where they stand in the group; up to
+/// one that is chosen whatever stands behind it. The answer is how many they are, and none where there
+/// is no room for them. Nobody is asked for the health of the others.
 pub(crate) fn note_near<V: HealthView>(
     zones: &Zones,
     group: Group,
@@ -141,7 +141,7 @@ pub(crate) fn note_near<V: HealthView>(
     requires slots { AreMembers zones.now.zones group slots.now at }
     requires healthy { length places.old ≤ length healthy.old }
     requires sets { length places.old ≤ length sets.old }
-    ensures noted { IfSome result (λ count. AreNoted (option_copied client.entry)
+    ensures noted { IfSome result (λ count. IsEnough (option_copied client.entry)
         (each place_of first.now (sets_in zones.now.zones group))
         (flags_in zones.now.zones (V.test view.now) group)
         (take count places.new) (take count healthy.new) (take count sets.new)) }
@@ -162,10 +162,14 @@ pub(crate) fn note_near<V: HealthView>(
         if count == places.len() {
             return None;
         }
+        let is_healthy = is_member_healthy(zones, group, slots, view, i);
         places[count] = place;
-        healthy[count] = is_member_healthy(zones, group, slots, view, i);
+        healthy[count] = is_healthy;
         sets[count] = i;
         count += 1;
+        if settles(is_healthy, client, &place) {
+            return Some(count);
+        }
     }
     Some(count)
 }

@@ -1,12 +1,13 @@
 //! The sets of a geolocation group that may apply to a client. The others, which are for another
 //! country, don't decide.
 
-ghost use Rattle.std.specs.Prelude.{◌≡◌, ◌∷◌, []};
+ghost use Rattle.std.specs.Prelude.{◌≡◌, ◌∷◌, [], false, true, IsTrue, None};
 ghost use Rattle.std.specs.Option.{option_copied};
 ghost use Rattle.geo_latency.specs.Nearest.{code_number, wanted};
-ghost use Rattle.policy_select.specs.Nearby.{NearbyDecide};
+ghost use Rattle.policy_select.specs.Nearby.{NearbyDecide, Settles};
 
 use answer_model::Location;
+use routing::{Place, Sub};
 
 /// The choice among the sets of a group is that among those that may apply to the client; it does
 /// nothing.
@@ -42,4 +43,40 @@ pub(crate) fn code_number(first: u8, second: u8) -> u32
     ensures { result ≡ code_number (first ∷ second ∷ []) }
 {
     u32::from(first) + u32::from(second) * 256
+}
+
+/// Whether a set for this place is chosen whatever sets stand behind it: it is healthy and for the
+/// client's country, of which no subdivision is told.
+#[inline(always)]
+pub(crate) fn settles(is_healthy: bool, client: Option<&Location>, place: &Place) -> bool
+    ensures healthy { IsTrue result → is_healthy ≡ true }
+    ensures settles { IsTrue result → Settles (option_copied client.entry) place.now }
+{
+    if !is_healthy {
+        return false;
+    }
+    let Some(client) = client else {
+        return false;
+    };
+    let Place::Country(code) = place else {
+        return false;
+    };
+    if has_subdivision(&client.subdivision) {
+        return false;
+    }
+    match &client.country {
+        Some(told) => told == code,
+        None => false,
+    }
+}
+
+/// Whether a subdivision is told.
+#[inline(always)]
+fn has_subdivision(subdivision: &Option<Sub>) -> bool
+    ensures { result ≡ false → subdivision.now ≡ None }
+{
+    match subdivision {
+        Some(_) => true,
+        None => false,
+    }
 }
