@@ -29,13 +29,15 @@ TellsNear country place (Some told) = told ≡ place
 
 -- The set at a place of some is for a country other than the one of this number, where the first one
 -- stands for each that has no place.
-abbrev pub IsForOtherCountry : (country : ℕ) → (first : Place) → List RecordSet → (i : ℕ) → Type 0
+abbrev pub IsForOtherCountry : (country : ℕ) → (first : Place) → List RecordSet → (i : ℕ)
+    → Type 0
 IsForOtherCountry country first sets i =
     (set : RecordSet) × (slice_get sets i ≡ Some set)
     × IsOtherCountry country (unwrap_or (place_of set.routing) first)
 
 -- So are all from one place to another.
-abbrev pub AreForOthers : (country : ℕ) → (first : Place) → List RecordSet → (from until : ℕ) → Type 0
+abbrev pub AreForOthers : (country : ℕ) → (first : Place) → List RecordSet → (from until : ℕ)
+    → Type 0
 AreForOthers country first sets from until =
     (i : ℕ) → from ≤ i → i < until → IsForOtherCountry country first sets i
 
@@ -74,7 +76,8 @@ Settles client place =
 
 -- The choice among the first sets is that among all of them.
 abbrev pub FirstDecide : Option Location → List Place → List Bool → (n : ℕ) → Type 0
-FirstDecide client places flags n = chosen (take n places) (take n flags) client ≡ chosen places flags client
+FirstDecide client places flags n =
+    chosen (take n places) (take n flags) client ≡ chosen places flags client
 
 -- So many first sets are noted, and they decide.
 abbrev pub IsEnough : Option Location → List Place → List Bool → (near : List Place)
