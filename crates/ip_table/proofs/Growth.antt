@@ -71,6 +71,7 @@ module _ (ps : List Prefix) (p : Prefix) (new : List Prefix) (is : new ≡ ps ++
         depth = omega (arith, fork.depth, ap (λ (q : Prefix). q.length) (same_here i h));
         long = fork.long ∙ ap (λ (q : Prefix). q.length) (sym (same_here i h));
         low = fork.low;
+        flat = fork.flat;
         behind = fork.behind
             ∙ ap (λ (q : Prefix). window (fork_at forks i).start q.address) (sym (same_here i h));
         children = λ bit low some. kids i bit _ h (fork.children bit low some);

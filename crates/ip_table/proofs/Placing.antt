@@ -110,6 +110,7 @@ pub record Fits (prefixes : List Prefix) (forks : List Fork) (above bit row : �
     (fork : Fork) : Type 0 where
   pub row_is : fork.row ≡ row
   pub low : fork.start ≤ 96
+  pub flat : width_of (prefix_at prefixes row).address ≡ 32 → fork.start ≡ 0
   pub start : fork.start ≤ (fork_at forks above).depth
   pub behind : fork.window ≡ window fork.start (prefix_at prefixes row).address
   pub long : fork.long ≡ (prefix_at prefixes row).length
@@ -210,6 +211,7 @@ module _ (prefixes : List Prefix) (forks : List Fork) (width at row : ℕ)
             long = ap (λ (n : Fork). n.long) e.1
                 ∙ ap (λ r. (prefix_at prefixes r).length) (sym this);
             low = omega (arith, same_start i, (c.tree.each i h).low);
+            flat = λ v4. same_start i ∙ (c.tree.each i h).flat v4;
             behind = ap (λ (n : Fork). n.window) e.1
                 ∙ ap (λ s. window s (prefix_at prefixes row).address)
                 (sym (ap (λ (n : Fork). n.start) e.1))
@@ -231,6 +233,7 @@ module _ (prefixes : List Prefix) (forks : List Fork) (width at row : ℕ)
             long = ap (λ (n : Fork). n.long) e.1 ∙ before.long
                 ∙ ap (λ r. (prefix_at prefixes r).length) (sym this);
             low = omega (arith, same_start i, before.low);
+            flat = λ v4. same_start i ∙ before.flat v4;
             behind = ap (λ (n : Fork). n.window) e.1 ∙ before.behind
                 ∙ ap (λ (n : Fork). window n.start (prefix_at prefixes n.row).address) (sym e.1);
             children = put_kids i h;
@@ -513,6 +516,7 @@ module _ (prefixes : List Prefix) (forks : List Fork) (width at row : ℕ)
           );
           long = same.long ∙ before.long ∙ ap (λ r. (prefix_at prefixes r).length) (sym same.row);
           low = omega (arith, same.start, before.low);
+          flat = λ v4. same.start ∙ before.flat v4;
           behind = same.window ∙ before.behind
               ∙ ap (λ s. window s (here prefixes forks i).address) (sym same.start)
               ∙ ap (λ r. window (fork_at new i).start (prefix_at prefixes r).address)
@@ -536,6 +540,7 @@ module _ (prefixes : List Prefix) (forks : List Fork) (width at row : ℕ)
           long = ap (λ (n : Fork). n.long) last ∙ fits.long
               ∙ ap (λ r. (prefix_at prefixes r).length) (sym this);
           low = omega (arith, ap (λ (n : Fork). n.start) last, fits.low);
+          flat = λ v4. ap (λ (n : Fork). n.start) last ∙ fits.flat (c.family ∙ v4);
           behind = ap (λ (n : Fork). n.window) last ∙ fits.behind
               ∙ ap (λ (n : Fork). window n.start (prefix_at prefixes row).address) (sym last)
               ∙ ap (λ r. window (fork_at new (length forks)).start (prefix_at prefixes r).address)
@@ -656,14 +661,17 @@ module _ (prefixes : List Prefix) (forks : List Fork) (width at row : ℕ)
         }
 
   -- No fork stands behind the next bit: the row gets a leaf.
-  pub leaf_fits : (bit : ℕ) → child (fork_at forks at) bit ≡ 0
+  pub leaf_fits : (start : ℕ) → start ≤ 96 → start ≤ (fork_at forks at).depth
+      → (width_of (prefix_at prefixes row).address ≡ 32 → start ≡ 0)
+      → (bit : ℕ) → child (fork_at forks at) bit ≡ 0
       → (fork_at forks at).depth < (prefix_at prefixes row).length
       → Fits prefixes forks at bit row
-      (leaf prefixes (min (fork_at forks at).depth 96) (prefix_at prefixes row).length row)
-  leaf_fits bit free deeper = record {
+      (leaf prefixes start (prefix_at prefixes row).length row)
+  leaf_fits start low up flat bit free deeper = record {
     row_is = refl;
-    low = omega arith;
-    start = omega arith;
+    low = low;
+    flat = flat;
+    start = up;
     behind = refl;
     long = refl;
     deeper = deeper;
@@ -672,8 +680,7 @@ module _ (prefixes : List Prefix) (forks : List Fork) (width at row : ℕ)
     kids = λ side low some.
         absurd (omega (
           arith,
-          no_child prefixes (min (fork_at forks at).depth 96) (prefix_at prefixes row).length row
-              side,
+          no_child prefixes start (prefix_at prefixes row).length row side,
         ));
   }
 
@@ -710,13 +717,15 @@ module _ (prefixes : List Prefix) (forks : List Fork) (width at row : ℕ)
         ∙ sym (one_more up (prefix_at prefixes row).address low) in
         omega (arith, (same (up + 1) (omega arith)).1 (omega (arith, deeper), bits))
 
-    pub between_fits : d < (fork_at forks next).depth
+    pub between_fits : (start : ℕ) → start ≤ 96 → start ≤ (fork_at forks at).depth
+        → (width_of (prefix_at prefixes row).address ≡ 32 → start ≡ 0)
+        → d < (fork_at forks next).depth
         → Fits prefixes forks at bit row
-        (linked (leaf prefixes (min (fork_at forks at).depth 96) d row)
+        (linked (leaf prefixes start d row)
         (bit_behind d (here prefixes forks next).address)
         (pair_of next (fork_at forks next).depth))
-    between_fits less =
-        let bare = leaf prefixes (min (fork_at forks at).depth 96) d row in
+    between_fits start low up flat less =
+        let bare = leaf prefixes start d row in
         let turn = bit_behind d (here prefixes forks next).address in
         let link = pair_of next (fork_at forks next).depth in
         let fork = linked bare turn link in
@@ -727,8 +736,9 @@ module _ (prefixes : List Prefix) (forks : List Fork) (width at row : ℕ)
         let own = (same d (omega (arith, less, next_low))).0 (omega arith) in
         record {
           row_is = a.row;
-          low = omega (arith, a.start);
-          start = omega (arith, a.start);
+          low = omega (arith, a.start, low);
+          flat = λ v4. a.start ∙ flat v4;
+          start = omega (arith, a.start, up);
           behind = a.window ∙ ap (λ s. window s (prefix_at prefixes row).address) (sym a.start);
           long = a.long;
           deeper = omega (arith, a.depth, past_bit);
@@ -754,8 +764,7 @@ module _ (prefixes : List Prefix) (forks : List Fork) (width at row : ℕ)
             | inr not ↦ absurd (omega (
               arith,
               linked_other bare turn side link turn_low low not,
-              no_child prefixes (min (fork_at forks at).depth 96) d
-                  row side,
+              no_child prefixes start d row side,
             ))
           ];
         }
@@ -810,6 +819,7 @@ module _ (prefixes : List Prefix) (forks new : List Fork) (width row : ℕ) (non
         long = ap (λ (n : Fork). n.long) root_is
             ∙ ap (λ r. (prefix_at prefixes r).length) (sym this);
         low = omega (arith, ap (λ (n : Fork). n.start) root_is);
+        flat = λ v4. ap (λ (n : Fork). n.start) root_is;
         behind = ap (λ (n : Fork). n.window) root_is
             ∙ ap (λ (n : Fork). window n.start (prefix_at prefixes n.row).address) (sym root_is);
         children =

@@ -1,12 +1,26 @@
 -- What a whole walk sums up.
-use Rattle.std.proofs.Common.{◌≡◌, ℕ, ◌<◌, ◌⊎◌, List, length, None, inl, inr, arith}
-use Rattle.std.proofs.lemmas.Bool.{cases_eq}
+use Rattle.std.proofs.Common.{◌≡◌, ℕ, ◌<◌, ◌≤◌, ◌⊎◌, List, length, None, inl, inr, arith}
+use Rattle.std.proofs.lemmas.Bool.{cases_eq, cases_lt}
 use Rattle.address_text.specs.declared.address.IpAddress.{IpAddress}
 use Rattle.ip_table.specs.declared.tree.Fork.{Fork}
 use Rattle.ip_table.specs.declared.tree.Walked.{Walked}
 use Rattle.ip_table.specs.Bits.{width_of}
 use Rattle.ip_table.specs.Prefixes.{Prefix}
-use Rattle.ip_table.specs.Trees.{prefix_at, StandsBelow, AllStand, IsTrueOf, IsDone, SumsUp}
+use Rattle.ip_table.specs.Trees.{prefix_at, StandsBelow, AllStand, AllPrefixes, IsTrueOf, IsDone, SumsUp}
+use Rattle.ip_table.proofs.FirstBits.{shares_fewer}
+use Rattle.ip_table.proofs.Walks.{width_low}
+
+-- a row that doesn't contain the address shares fewer than 128 bits with it
+pub low : (prefixes : List Prefix) (a : IpAddress) (walked : Walked) → AllPrefixes prefixes
+    → IsTrueOf prefixes a walked → walked.past ≤ 128
+low prefixes a walked all sound = elim (cases_lt 128 walked.past) [
+  | inr few ↦ few
+  | inl many ↦
+      let b = sound.below 128 many in
+      let own = prefix_at prefixes b.0 in
+      absurd (b.2 (shares_fewer own.length 128 own.address a
+      (omega (arith, (all b.0 b.1).within, width_low own.address)) b.3))
+]
 
 -- before the first step nothing was seen
 pub sound_nothing : (prefixes : List Prefix) (a : IpAddress)

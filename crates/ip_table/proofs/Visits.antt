@@ -203,7 +203,6 @@ module _ (prefixes : List Prefix) (forks : List Fork) (a : IpAddress) (all : All
         record {
           within = kid.within;
           deeper = kid.deeper;
-          start = kid.start;
           meets = fewer (fork_at forks next).start d own a kid.start begin;
         }
 

@@ -85,6 +85,8 @@ pub record IsFork (prefixes : List Prefix) (forks : List Fork) (width at : ℕ) 
   pub depth : (fork_at forks at).depth ≤ (here prefixes forks at).length
   pub long : (fork_at forks at).long ≡ (here prefixes forks at).length
   pub low : (fork_at forks at).start ≤ 96
+  -- The window of an IPv4 address is the address.
+  pub flat : width ≡ 32 → (fork_at forks at).start ≡ 0
   pub behind : (fork_at forks at).window
       ≡ window (fork_at forks at).start (here prefixes forks at).address
   pub children : (bit : ℕ) → bit < 2 → 0 < child (fork_at forks at) bit
@@ -151,7 +153,6 @@ pub record GoesOn (prefixes : List Prefix) (forks : List Fork) (address : IpAddr
     (above at : ℕ) : Type 0 where
   pub within : at < length forks
   pub deeper : (fork_at forks above).depth < (fork_at forks at).depth
-  pub start : (fork_at forks at).start ≤ (fork_at forks above).depth
   pub meets : SharesBits prefixes forks address at
 
 -- No two rows have one prefix.

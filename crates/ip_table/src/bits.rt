@@ -58,7 +58,7 @@ pub(crate) fn bit_of(depth: u8, number: u128) -> u8
 /// Walks that have to be fast take this form: no branch asks what the bit is, and half the number is
 /// moved where that is enough.
 #[inline(always)]
-pub(crate) fn has_bit(depth: u8, number: u128) -> bool
+pub(crate) fn has_bit(depth: u32, number: u128) -> bool
     ensures { (a : IpAddress) → number ≡ number_of a → cond result 1 0 ≡ bit_behind depth a }
 {
     if depth < 64 {
@@ -77,7 +77,7 @@ pub(crate) fn first_half(number: u128) -> u64
 
 /// Whether the bit behind the first ones is set, of 64 bits.
 #[inline(always)]
-pub(crate) fn has_bit_of_half(depth: u8, half: u64) -> bool
+pub(crate) fn has_bit_of_half(depth: u32, half: u64) -> bool
     requires { depth < 64 }
     ensures { cond result 1 0 ≡ half / 2 ^ (63 - depth) % 2 }
 {
@@ -108,9 +108,9 @@ pub(crate) fn window_of_half(depth: u8, half: u64) -> u32
 /// How many first bits two addresses have in common that differ in the 32 bits behind the first
 /// ones.
 #[inline(always)]
-pub(crate) fn shared_before(depth: u8, a: u32, b: u32) -> u8
+pub(crate) fn shared_before(depth: u8, a: u32, b: u32) -> u32
     requires { depth ≤ 96 }
     ensures { (m : ℕ) → m ≤ 32 → (depth + m ≤ result ↔ (a / 2 ^ (32 - m) ≡ b / 2 ^ (32 - m))) }
 {
-    depth + (a ^ b).leading_zeros() as u8
+    u32::from(depth) + (a ^ b).leading_zeros()
 }

@@ -6,13 +6,27 @@ ghost use Rattle.ip_table.specs.Prefixes.{IsPrefix};
 ghost use Rattle.ip_table.specs.Trees.{HasPrefix, AllPrefixes, AreApart, IsTree, IsCarried, AllStand, IsGrown, bit_behind, taken_by, leaf, linked, pair_of, grown, prefix_at, fork_at};
 
 use crate::IpPrefix;
-use crate::bits::{bit_of, number_of, shared_bits, window_of};
+use crate::bits::{bit_of, number_of, shared_bits, width_of, window_of};
 use crate::tree::Fork;
 use crate::walk::{child_of, fork_of};
 use crate::walked::prefix_of;
+use address_text::IpAddress;
 
 /// The most bits before a window, since it has 32 of 128.
 const MAX_START: u8 = 96;
+
+/// Where the window of a fork begins below one of this depth: behind bits that lead to it. The
+/// window of an IPv4 address is the address.
+fn start_below(depth: u8, address: IpAddress) -> u8
+    ensures low { result ≤ 96 }
+    ensures up { result ≤ depth }
+    ensures flat { width_of address ≡ 32 → result ≡ 0 }
+{
+    if width_of(address) == 32 {
+        return 0;
+    }
+    depth.min(MAX_START)
+}
 
 /// A fork that a row takes.
 fn taken_by(fork: Fork, prefixes: &[IpPrefix], row: u32) -> Fork
@@ -167,8 +181,8 @@ fn carry(prefixes: &[IpPrefix], forks: &mut Vec<Fork>, above: u32, carried: u32)
     ensures capacity { vec_capacity forks.new ≡ vec_capacity forks.old }
 {
     let fork = fork_of(forks, above);
-    let start = fork.depth.min(MAX_START);
     let prefix = prefix_of(prefixes, carried);
+    let start = start_below(fork.depth, prefix.address());
     let bit = bit_of(fork.depth, number_of(prefix.address()));
     let next = child_of(fork, bit);
     if next == 0 {

@@ -123,12 +123,10 @@ impl<V> IpTable<V> {
             IpAddress::V6(_) => self.v6.as_slice(),
         };
         let walked = sum_up(&self.prefixes, forks, address);
+        let past = walked.past as u8;
         match walked.found {
-            None => (None, walked.past),
-            Some(row) => (
-                Some(&self.values[row as usize]),
-                walked.past.max(walked.long),
-            ),
+            None => (None, past),
+            Some(row) => (Some(&self.values[row as usize]), past.max(walked.long)),
         }
     }
 }

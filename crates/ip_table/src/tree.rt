@@ -6,7 +6,7 @@ pub struct Fork {
     pub row: u32,
     /// Its 32 bits behind the first `start`.
     pub window: u32,
-    /// How many bits stand before the window: no more than lead here.
+    /// How many bits stand before the window: no more than lead here, and none of IPv4.
     pub start: u8,
     /// How many bits the row has.
     pub long: u8,
@@ -26,6 +26,6 @@ pub struct Walked {
     /// How many bits that row has, 0 for none.
     pub long: u8,
     /// One more than the most first bits that the address shares with a row that doesn't contain
-    /// it; 0 for none.
-    pub past: u8,
+    /// it; 0 for none. A number of 32 bits, with which a walk works in fewer instructions.
+    pub past: u32,
 }

@@ -1,6 +1,6 @@
 //! The walk from the root along an address's bits.
 
-ghost use Rattle.std.specs.Prelude.{◌≡◌, ℕ, ◌+◌, ◌/◌, ◌^◌, ◌<◌, ◌≤◌, ◌⊎◌, length, IsTrue, ◌↔◌, max, None, cond};
+ghost use Rattle.std.specs.Prelude.{◌≡◌, ℕ, Bool, not, ◌+◌, ◌/◌, ◌^◌, ◌<◌, ◌≤◌, ◌⊎◌, length, IsTrue, ◌↔◌, max, None, cond};
 ghost use Rattle.ip_table.specs.Bits.{width_of, number_of, first_bits};
 ghost use Rattle.ip_table.specs.Prefixes.{IsPrefix};
 ghost use Rattle.ip_table.specs.Trees.{HasPrefix, AllPrefixes, IsTree, SharesBits, IsTrueOf, IsDone, SumsUp, AllStand, fork_at, prefix_at, child_pair, child, bit_behind, window};
@@ -9,10 +9,10 @@ ghost use Rattle.ip_table.specs.Visits.{IsVisit};
 use crate::IpPrefix;
 use crate::bits::{
     bit_of, first_half, has_bit, has_bit_of_half, number_of, shared_before, shared_bits, width_of,
-    window_of, window_of_half,
+    window_of,
 };
 use crate::tree::{Fork, Walked};
-use crate::walked::{prefix_of, with_past, with_row};
+use crate::walked::{prefix_of, with_apart, with_past, with_row};
 use address_text::IpAddress;
 
 /// What a walk has seen at one more fork, and where it goes on.
@@ -21,7 +21,7 @@ pub struct Visited {
     pub walked: Walked,
     pub next: u32,
     /// How deep that is.
-    pub depth: u8,
+    pub depth: u32,
 }
 
 /// Visits a fork on the way along the bits of an address.
@@ -30,7 +30,7 @@ fn at_fork(
     prefixes: &[IpPrefix],
     forks: &[Fork],
     at: u32,
-    depth: u8,
+    depth: u32,
     address: IpAddress,
     number: u128,
     walked: Walked,
@@ -52,30 +52,32 @@ fn at_fork(
     )
 }
 
-/// Visits a fork of IPv4 on the way along the bits of an address, by the first half of its number.
+/// Visits a fork of IPv4 on the way along the bits of an address, by its first 32 bits and by the
+/// first half of its number.
 #[inline(always)]
 fn at_fork_of_v4(
     prefixes: &[IpPrefix],
     forks: &[Fork],
     at: u32,
-    depth: u8,
+    depth: u32,
     address: IpAddress,
+    first: u32,
     half: u64,
     walked: Walked,
 ) -> Visited
     requires prefixes { AllPrefixes prefixes.now }
     requires tree { IsTree prefixes.now forks.now (width_of address) }
     requires family { width_of address ≡ 32 }
+    requires first { first ≡ window 0 address }
     requires half { half ≡ number_of address / 2 ^ 64 }
     requires at { at < length forks.now }
     requires depth { depth ≡ (fork_at forks.now at).depth }
-    requires start { (fork_at forks.now at).start ≤ 32 }
     requires meets { SharesBits prefixes.now forks.now address at }
     requires sound { IsTrueOf prefixes.now address walked }
     ensures { IsVisit prefixes.now forks.now address at walked result }
 {
     let fork = fork_of(forks, at);
-    let shared = shared_in_half(prefixes, fork, address, half);
+    let shared = shared_at_first(prefixes, fork, address, first);
     let on = has_bit_of_half(depth, half);
     visit(
         prefixes, forks, at, fork, shared, on, depth, address, walked,
@@ -86,16 +88,17 @@ fn at_fork_of_v4(
 /// the one behind the fork's is set or not.
 ///
 /// Where the row doesn't contain the address, it shares no fewer bits than the rows that stand aside
-/// from the way: those needn't be asked for then.
+/// from the way: those needn't be asked for then, nor which row it is, which is read only where it
+/// contains the address.
 #[inline(always)]
 fn visit(
     prefixes: &[IpPrefix],
     forks: &[Fork],
     at: u32,
     fork: Fork,
-    shared: u8,
+    shared: u32,
     on: bool,
-    depth: u8,
+    depth: u32,
     address: IpAddress,
     walked: Walked,
 ) -> Visited
@@ -113,24 +116,25 @@ fn visit(
 {
     if shared < depth {
         return Visited {
-            walked: with_row(prefixes, fork.row, fork.long, shared, address, walked),
+            walked: with_apart(prefixes, fork.row, shared, address, walked),
             next: 0,
             depth: 0,
         };
     }
     let child_pair = word_of(fork, on);
-    if shared < fork.long {
+    if shared < u32::from(fork.long) {
         return Visited {
-            walked: with_row(prefixes, fork.row, fork.long, shared, address, walked),
+            walked: with_apart(prefixes, fork.row, shared, address, walked),
             next: child_pair >> 8,
-            depth: (child_pair % 256) as u8,
+            depth: child_pair % 256,
         };
     }
-    let here = with_row(prefixes, fork.row, fork.long, shared, address, walked);
+    let row = fork_of(forks, at).row;
+    let here = with_row(prefixes, row, fork.long, shared, address, walked);
     Visited {
-        walked: with_other(word_of(fork, !on) >> 8, depth, here),
+        walked: with_other(other_word(fork, child_pair) >> 8, depth, here),
         next: child_pair >> 8,
-        depth: (child_pair % 256) as u8,
+        depth: child_pair % 256,
     }
 }
 
@@ -142,9 +146,23 @@ fn word_of(fork: Fork, on: bool) -> u32
     if on { fork.one } else { fork.zero }
 }
 
+/// What a fork tells of the one to which the other bit leads. The bit isn't asked again, so that a
+/// walk needs it once a fork.
+#[inline(always)]
+fn other_word(fork: Fork, taken: u32) -> u32
+    ensures { (on : Bool) → taken ≡ child_pair fork (cond on 1 0)
+        → result ≡ child_pair fork (cond (not on) 1 0) }
+{
+    if taken == fork.one {
+        fork.zero
+    } else {
+        fork.one
+    }
+}
+
 /// How many first bits the row at a fork shares with an address that has those before its window;
 /// where it shares all of its own, not how many more.
-fn shared_at(prefixes: &[IpPrefix], fork: Fork, address: IpAddress, number: u128) -> u8
+fn shared_at(prefixes: &[IpPrefix], fork: Fork, address: IpAddress, number: u128) -> u32
     requires row { fork.row < length prefixes.now }
     requires prefix { IsPrefix (prefix_at prefixes.now fork.row).address
         (prefix_at prefixes.now fork.row).length }
@@ -162,30 +180,30 @@ fn shared_at(prefixes: &[IpPrefix], fork: Fork, address: IpAddress, number: u128
         return shared_before(fork.start, fork.window, window);
     }
     if fork.long <= fork.start + 32 {
-        return fork.long;
+        return u32::from(fork.long);
     }
-    shared_bits(prefix_of(prefixes, fork.row).address(), address)
+    u32::from(shared_bits(prefix_of(prefixes, fork.row).address(), address))
 }
 
-/// How many first bits the row at a fork of IPv4 shares with an address that has those before its
-/// window.
+/// How many first bits the row at a fork of IPv4, whose window is the whole address, shares with an
+/// address of these first 32 bits.
 #[inline(always)]
-fn shared_in_half(prefixes: &[IpPrefix], fork: Fork, address: IpAddress, half: u64) -> u8
+fn shared_at_first(prefixes: &[IpPrefix], fork: Fork, address: IpAddress, first: u32) -> u32
     requires row { fork.row < length prefixes.now }
     requires few { (prefix_at prefixes.now fork.row).length ≤ 32 }
-    requires low { fork.start ≤ 32 }
+    requires flat { fork.start ≡ 0 }
     requires meets { first_bits fork.start (prefix_at prefixes.now fork.row).address
         ≡ first_bits fork.start address }
     requires window { fork.window ≡ window fork.start (prefix_at prefixes.now fork.row).address }
-    requires half { half ≡ number_of address / 2 ^ 64 }
+    requires first { first ≡ window 0 address }
     ensures { (n : ℕ) → n ≤ (prefix_at prefixes.now fork.row).length
         → (n ≤ result ↔ (first_bits n (prefix_at prefixes.now fork.row).address ≡ first_bits n address)) }
 {
-    shared_before(fork.start, fork.window, window_of_half(fork.start, half))
+    shared_before(0, fork.window, first)
 }
 
 /// Where rows stand aside from the way, the next bit is not shared.
-fn with_other(other: u32, depth: u8, walked: Walked) -> Walked
+fn with_other(other: u32, depth: u32, walked: Walked) -> Walked
     requires { depth < 255 }
     ensures found { result.found ≡ walked.found }
     ensures long { result.long ≡ walked.long }
@@ -222,7 +240,8 @@ pub(crate) fn sum_up(prefixes: &[IpPrefix], forks: &[Fork], address: IpAddress) 
     requires prefixes { AllPrefixes prefixes.now }
     requires tree { IsTree prefixes.now forks.now (width_of address) }
     requires all { AllStand prefixes.now forks.now (width_of address) (length prefixes.now) }
-    ensures { SumsUp prefixes.now address result }
+    ensures sums { SumsUp prefixes.now address result }
+    ensures low { result.past ≤ 128 }
 {
     if forks.is_empty() {
         return nothing();
@@ -278,11 +297,12 @@ fn walk_of_v4(prefixes: &[IpPrefix], forks: &[Fork], address: IpAddress) -> Walk
 {
     let number = number_of(address);
     let half = first_half(number);
+    let first = window_of(0, number);
     let mut walked = nothing();
     let mut at = 0;
     let mut depth = 0;
     loop {
-        let visited = at_fork_of_v4(prefixes, forks, at, depth, address, half, walked);
+        let visited = at_fork_of_v4(prefixes, forks, at, depth, address, first, half, walked);
         walked = visited.walked;
         if visited.next == 0 {
             return walked;

@@ -16,7 +16,7 @@ pub(crate) fn with_row(
     prefixes: &[IpPrefix],
     row: u32,
     long: u8,
-    shared: u8,
+    shared: u32,
     address: IpAddress,
     walked: Walked,
 ) -> Walked
@@ -33,9 +33,34 @@ pub(crate) fn with_row(
     ensures keeps { (r : ℕ) → IsDone prefixes.now address walked r
         → IsDone prefixes.now address result r }
 {
-    if long <= shared {
+    if u32::from(long) <= shared {
         return with_found(prefixes, row, long, walked);
     }
+    with_apart(prefixes, row, shared, address, walked)
+}
+
+/// What has been seen with one more row of the address's family that shares so many of its bits,
+/// fewer than it has. No step asks which row that is.
+#[inline(always)]
+pub(crate) fn with_apart(
+    prefixes: &[IpPrefix],
+    row: u32,
+    shared: u32,
+    address: IpAddress,
+    walked: Walked,
+) -> Walked
+    requires row { row < length prefixes.now }
+    requires less { shared < (prefix_at prefixes.now row).length }
+    requires few { shared < 255 }
+    requires family { width_of (prefix_at prefixes.now row).address ≡ width_of address }
+    requires shared { (n : ℕ) → n ≤ (prefix_at prefixes.now row).length
+        → (n ≤ shared ↔ (first_bits n (prefix_at prefixes.now row).address ≡ first_bits n address)) }
+    requires sound { IsTrueOf prefixes.now address walked }
+    ensures sound { IsTrueOf prefixes.now address result }
+    ensures done { IsDone prefixes.now address result row }
+    ensures keeps { (r : ℕ) → IsDone prefixes.now address walked r
+        → IsDone prefixes.now address result r }
+{
     with_past(shared + 1, walked)
 }
 
@@ -71,7 +96,7 @@ fn with_found(prefixes: &[IpPrefix], row: u32, long: u8, walked: Walked) -> Walk
 }
 
 /// So many bits are not shared.
-pub(crate) fn with_past(past: u8, walked: Walked) -> Walked
+pub(crate) fn with_past(past: u32, walked: Walked) -> Walked
     ensures found { result.found ≡ walked.found }
     ensures long { result.long ≡ walked.long }
     ensures past { result.past ≡ max walked.past past }

@@ -4,7 +4,7 @@ use Rattle.ip_table.specs.Trees.{IsTrueOf, fork_at, here}
 use Rattle.ip_table.proofs.FirstBits.{no_bits}
 use Rattle.ip_table.proofs.Octets.{number_low}
 use Rattle.ip_table.proofs.Sums.{sound_nothing, finish}
-use Rattle.ip_table.proofs.Walks.{shallow, narrow}
+use Rattle.ip_table.proofs.Walks.{shallow}
 use Rattle.ip_table.proofs.walk.walk_of_v4.Goals as goal
 
 pub loop-address-init : goal.loop-address-init
@@ -15,7 +15,6 @@ loop-address-init c =
     record {
       within = c.requires.some;
       level = sym c.requires.tree.root;
-      start = omega (arith, c.requires.tree.begin);
       meets = subst (λ n. first_bits n own ≡ first_bits n a) (sym c.requires.tree.begin)
           (no_bits own a
           (number_low own
@@ -50,14 +49,6 @@ loop-address-preserved c =
     record {
       within = goes.within;
       level = e.depth (omega arith);
-      start =
-          omega (
-            arith,
-            goes.start,
-            (narrow c.args.prefixes.now c.args.forks.now (width_of c.args.address)
-                c.requires.prefixes c.requires.tree c.loop-address.at c.loop-address.invariant.within
-                c.requires.family).1,
-          );
       meets = goes.meets;
       sound = e.sound;
       each = λ row h family.

@@ -8,7 +8,6 @@ abbrev pub invariant-loop-address : goal.invariant-loop-address
 invariant-loop-address l = record {
   within : l.at < length l.forks;
   level : l.depth ≡ (fork_at l.forks l.at).depth;
-  start : (fork_at l.forks l.at).start ≤ 32;
   meets : SharesBits l.prefixes l.forks l.address l.at;
   sound : IsTrueOf l.prefixes l.address l.walked;
   each : (row : ℕ) → row < length l.prefixes

@@ -10,7 +10,7 @@ pub index-requires : goal.index-requires
 index-requires g c =
     omega (
       arith,
-      (c.sum_up-walked.ensures.sound.found c.in-Some.row c.in-Some.is).0,
+      (c.sum_up-walked.ensures.sums.sound.found c.in-Some.row c.in-Some.is).0,
       c.deref.ensures.len,
     )
 
@@ -19,7 +19,7 @@ returns-in-None-clause-located g c =
     let ps = c.self.inside.prefixes.items in
     let sums =
     subst (λ (p : List Prefix). SumsUp p c.args.address c.sum_up-walked.result)
-    c.deref.ensures.value c.sum_up-walked.ensures in
+    c.deref.ensures.value c.sum_up-walked.ensures.sums in
     subst (λ rows. Locates rows c.args.address None c.sum_up-walked.result.past) c.self.view_is
     (located_none ps c.self.inside.values.items c.self.invariant.values c.args.address
     c.sum_up-walked.result sums c.in-None.is)
@@ -35,7 +35,7 @@ returns-in-Some-clause-located g c =
     let ps = c.self.inside.prefixes.items in
     let sums =
     subst (λ (p : List Prefix). SumsUp p c.args.address c.sum_up-walked.result)
-    c.deref.ensures.value c.sum_up-walked.ensures in
+    c.deref.ensures.value c.sum_up-walked.ensures.sums in
     subst (λ rows. Locates rows c.args.address (Some c.index.result.now) c.max.result)
     c.self.view_is
     (located_some ps c.self.inside.values.items c.self.invariant.values c.args.address
