@@ -1,5 +1,5 @@
 -- A row is put into the tree of its family.
-use Rattle.std.proofs.Common.{◌≡◌, ◌≢◌, ℕ, ◌+◌, ◌*◌, ◌/◌, ◌%◌, ◌<◌, ◌≤◌, ◌⊎◌, ◌↔◌, List, [], ◌∷◌, ◌++◌, length, min, refl, sym, ap, ◌∙◌, subst, inl, inr, arith, zero, suc, length-append, length-set, get_or-set_same, get_or-set_other}
+use Rattle.std.proofs.Common.{◌≡◌, ◌≢◌, ℕ, ◌+◌, ◌-◌, ◌*◌, ◌/◌, ◌%◌, ◌<◌, ◌≤◌, ◌⊎◌, ◌↔◌, List, [], ◌∷◌, ◌++◌, length, min, refl, sym, ap, ◌∙◌, subst, inl, inr, arith, zero, suc, length-append, length-set, get_or-set_same, get_or-set_other}
 use Rattle.std.specs.Prelude.{slice_set}
 use Rattle.std.proofs.lemmas.Bool.{cases_lt, cases_eq}
 use Rattle.std.proofs.lemmas.List.{get_or_append_left, get_or_push}
@@ -34,7 +34,7 @@ kid_kept prefixes forks new keeps i bit k h same kid =
     record {
       within = omega (arith, kid.within, keeps.long);
       deeper = omega (arith, kid.deeper, up, down);
-      child_depth = ap (λ w. w % 256) same ∙ kid.child_depth ∙ sym down;
+      child_depth = ap (λ w. 255 - w % 256) same ∙ kid.child_depth ∙ sym down;
       start = omega (arith, kid.start, up, keeps.start k kid.within);
       bits = subst (λ n. first_bits (n + 1) own
           ≡ 2 * first_bits n (here prefixes new i).address + bit) (sym up)
@@ -102,7 +102,7 @@ linked_other n (suc b) (suc o) k low below ne = absurd (omega arith)
 told_at : (at d : ℕ) → d ≤ 128 → pair_of at d / 256 ≡ at
 told_at at d low = omega arith
 
-told_depth : (at d : ℕ) → d ≤ 128 → pair_of at d % 256 ≡ d
+told_depth : (at d : ℕ) → d ≤ 128 → 255 - pair_of at d % 256 ≡ d
 told_depth at d low = omega arith
 
 -- A fork for a row can stand between another fork and what that leads to by a bit.
@@ -447,7 +447,7 @@ module _ (prefixes : List Prefix) (forks : List Fork) (width at row : ℕ)
         record {
           within = omega (arith, longer);
           deeper = omega (arith, ap (λ (n : Fork). n.depth) last, up, fits.deeper);
-          child_depth = ap (λ w. w % 256) on_word ∙ told_depth (length forks) fork.depth fork_low
+          child_depth = ap (λ w. 255 - w % 256) on_word ∙ told_depth (length forks) fork.depth fork_low
               ∙ sym (ap (λ (n : Fork). n.depth) last);
           start = omega (arith, ap (λ (n : Fork). n.start) last, up, fits.start);
           bits = subst (λ n. first_bits (n + 1) (here prefixes new (length forks)).address
@@ -749,7 +749,7 @@ module _ (prefixes : List Prefix) (forks : List Fork) (width at row : ℕ)
                 let on : child fork side ≡ next = ap (child fork) is ∙ to in (
                   on ∙ next_is,
                   omega (arith, a.depth, less, ap (λ i. (fork_at forks i).depth) on),
-                  ap (child_depth fork) is ∙ ap (λ w. w % 256) (linked_child bare turn link)
+                  ap (child_depth fork) is ∙ ap (λ w. 255 - w % 256) (linked_child bare turn link)
                       ∙ told_depth next (fork_at forks next).depth next_low
                       ∙ ap (λ i. (fork_at forks i).depth) (sym on),
                   subst (λ n. first_bits (n + 1) (here prefixes forks (child fork side)).address

@@ -113,10 +113,10 @@ module _ (prefixes : List Prefix) (forks : List Fork) (a : IpAddress) (all : All
 
     pub turned : (old : Walked) → IsTrueOf prefixes a walked
         → ((r : ℕ) → IsDone prefixes a old r → IsDone prefixes a walked r)
-        → IsVisit prefixes forks a at old (record { walked = walked; next = 0; depth = 0 })
+        → IsVisit prefixes forks a at old (record { walked = walked; next = 0; place = 0 })
     turned old s keeps = record {
       goes = λ (some : 0 < 0). absurd (omega arith);
-      depth = λ (some : 0 < 0). absurd (omega arith);
+      place = λ (some : 0 < 0). absurd (omega arith);
       sound = s;
       each = λ row h family before. elim before [
         | inl ahead ↦ inr (done_aside row ahead)
@@ -273,15 +273,15 @@ module _ (prefixes : List Prefix) (forks : List Fork) (a : IpAddress) (all : All
         → deep ≡ child_pair (fork_at forks at) (bit_behind (fork_at forks at).depth a) % 256
         → IsTrueOf prefixes a mid → IsDone prefixes a mid (fork_at forks at).row
         → ((r : ℕ) → IsDone prefixes a old r → IsDone prefixes a mid r)
-        → IsVisit prefixes forks a at old (record { walked = new; next = next; depth = deep })
+        → IsVisit prefixes forks a at old (record { walked = new; next = next; place = deep })
     visited old deep is s done keeps = record {
       goes = goes;
-      depth = λ (some : 0 < next).
+      place = λ (some : 0 < next).
           let bit = bit_behind (fork_at forks at).depth a in
           let kid : IsChild prefixes forks at bit next =
           subst (λ i. IsChild prefixes forks at bit i) (sym next_is)
           ((tree.each at within).children bit (omega arith) (subst (λ i. 0 < i) next_is some)) in
-          is ∙ kid.child_depth;
+          omega (arith, is, kid.child_depth);
       sound = sound s;
       each = λ row h family before. each old done keeps row h before;
     }

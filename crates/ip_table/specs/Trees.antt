@@ -42,11 +42,11 @@ child fork bit = child_pair fork bit / 256
 
 -- how deep that is
 abbrev pub child_depth : Fork → ℕ → ℕ
-child_depth fork bit = child_pair fork bit % 256
+child_depth fork bit = 255 - child_pair fork bit % 256
 
--- a fork and how deep it is, in one number
+-- a fork and how deep it is, in one number, whose last bits tell the place of the bit behind
 abbrev pub pair_of : (at depth : ℕ) → ℕ
-pair_of at depth = at * 256 + depth
+pair_of at depth = at * 256 + (255 - depth)
 
 -- the bit behind the first d
 abbrev pub bit_behind : ℕ → IpAddress → ℕ

@@ -84,6 +84,14 @@ pub(crate) fn has_bit_of_half(depth: u32, half: u64) -> bool
     half >> (63 - depth) & 1 == 1
 }
 
+/// Whether the bit at a place is set, of 64 bits, the last one at 0 and again at each multiple of 64.
+#[inline(always)]
+pub(crate) fn has_bit_at(place: u32, half: u64) -> bool
+    ensures { cond result 1 0 ≡ half / 2 ^ (place % 64) % 2 }
+{
+    half >> (place % 64) & 1 == 1
+}
+
 /// The 32 bits behind the first ones, of the number that an address's bits spell.
 #[inline(always)]
 pub(crate) fn window_of(depth: u8, number: u128) -> u32

@@ -69,7 +69,7 @@ fn linked(fork: Fork, bit: u8, at: u32, depth: u8) -> Fork
     requires { at < 2 ^ 24 }
     ensures { result ≡ linked fork bit (pair_of at depth) }
 {
-    let child_pair = at * 256 + u32::from(depth);
+    let child_pair = at * 256 + (255 - u32::from(depth));
     if bit == 0 {
         return Fork {
             zero: child_pair,

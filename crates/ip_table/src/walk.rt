@@ -1,6 +1,6 @@
 //! The walk from the root along an address's bits.
 
-ghost use Rattle.std.specs.Prelude.{◌≡◌, ℕ, Bool, not, ◌+◌, ◌/◌, ◌^◌, ◌<◌, ◌≤◌, ◌⊎◌, length, IsTrue, ◌↔◌, max, None, cond};
+ghost use Rattle.std.specs.Prelude.{◌≡◌, ℕ, Bool, not, ◌+◌, ◌-◌, ◌/◌, ◌^◌, ◌<◌, ◌≤◌, ◌⊎◌, length, IsTrue, ◌↔◌, max, None, cond};
 ghost use Rattle.ip_table.specs.Bits.{width_of, number_of, first_bits};
 ghost use Rattle.ip_table.specs.Prefixes.{IsPrefix};
 ghost use Rattle.ip_table.specs.Trees.{HasPrefix, AllPrefixes, IsTree, SharesBits, IsTrueOf, IsDone, SumsUp, AllStand, fork_at, prefix_at, child_pair, child, bit_behind, window};
@@ -8,7 +8,7 @@ ghost use Rattle.ip_table.specs.Visits.{IsVisit};
 
 use crate::IpPrefix;
 use crate::bits::{
-    bit_of, first_half, has_bit, has_bit_of_half, number_of, shared_before, shared_bits, width_of,
+    bit_of, first_half, has_bit, has_bit_at, number_of, shared_before, shared_bits, width_of,
     window_of,
 };
 use crate::tree::{Fork, Walked};
@@ -20,8 +20,8 @@ use address_text::IpAddress;
 pub struct Visited {
     pub walked: Walked,
     pub next: u32,
-    /// How deep that is.
-    pub depth: u32,
+    /// 255 less how deep that is: the place of the next bit, if places are counted by 64.
+    pub place: u32,
 }
 
 /// Visits a fork on the way along the bits of an address.
@@ -30,7 +30,7 @@ fn at_fork(
     prefixes: &[IpPrefix],
     forks: &[Fork],
     at: u32,
-    depth: u32,
+    place: u32,
     address: IpAddress,
     number: u128,
     walked: Walked,
@@ -39,11 +39,12 @@ fn at_fork(
     requires tree { IsTree prefixes.now forks.now (width_of address) }
     requires number { number ≡ number_of address }
     requires at { at < length forks.now }
-    requires depth { depth ≡ (fork_at forks.now at).depth }
+    requires place { place ≡ 255 - (fork_at forks.now at).depth }
     requires meets { SharesBits prefixes.now forks.now address at }
     requires sound { IsTrueOf prefixes.now address walked }
     ensures { IsVisit prefixes.now forks.now address at walked result }
 {
+    let depth = 255 - place;
     let fork = fork_of(forks, at);
     let shared = shared_at(prefixes, fork, address, number);
     let on = has_bit(depth, number);
@@ -59,7 +60,7 @@ fn at_fork_of_v4(
     prefixes: &[IpPrefix],
     forks: &[Fork],
     at: u32,
-    depth: u32,
+    place: u32,
     address: IpAddress,
     first: u32,
     half: u64,
@@ -71,14 +72,15 @@ fn at_fork_of_v4(
     requires first { first ≡ window 0 address }
     requires half { half ≡ number_of address / 2 ^ 64 }
     requires at { at < length forks.now }
-    requires depth { depth ≡ (fork_at forks.now at).depth }
+    requires place { place ≡ 255 - (fork_at forks.now at).depth }
     requires meets { SharesBits prefixes.now forks.now address at }
     requires sound { IsTrueOf prefixes.now address walked }
     ensures { IsVisit prefixes.now forks.now address at walked result }
 {
+    let depth = 255 - place;
     let fork = fork_of(forks, at);
     let shared = shared_at_first(prefixes, fork, address, first);
-    let on = has_bit_of_half(depth, half);
+    let on = has_bit_at(place, half);
     visit(
         prefixes, forks, at, fork, shared, on, depth, address, walked,
     )
@@ -118,7 +120,7 @@ fn visit(
         return Visited {
             walked: with_apart(prefixes, fork.row, shared, address, walked),
             next: 0,
-            depth: 0,
+            place: 0,
         };
     }
     let child_pair = word_of(fork, on);
@@ -126,7 +128,7 @@ fn visit(
         return Visited {
             walked: with_apart(prefixes, fork.row, shared, address, walked),
             next: child_pair >> 8,
-            depth: child_pair % 256,
+            place: child_pair % 256,
         };
     }
     let row = fork_of(forks, at).row;
@@ -134,7 +136,7 @@ fn visit(
     Visited {
         walked: with_other(other_word(fork, child_pair) >> 8, depth, here),
         next: child_pair >> 8,
-        depth: child_pair % 256,
+        place: child_pair % 256,
     }
 }
 
@@ -274,15 +276,15 @@ fn walk(prefixes: &[IpPrefix], forks: &[Fork], address: IpAddress) -> Walked
     let number = number_of(address);
     let mut walked = nothing();
     let mut at = 0;
-    let mut depth = 0;
+    let mut place = 255;
     loop {
-        let visited = at_fork(prefixes, forks, at, depth, address, number, walked);
+        let visited = at_fork(prefixes, forks, at, place, address, number, walked);
         walked = visited.walked;
         if visited.next == 0 {
             return walked;
         }
         at = visited.next;
-        depth = visited.depth;
+        place = visited.place;
     }
 }
 
@@ -300,15 +302,15 @@ fn walk_of_v4(prefixes: &[IpPrefix], forks: &[Fork], address: IpAddress) -> Walk
     let first = window_of(0, number);
     let mut walked = nothing();
     let mut at = 0;
-    let mut depth = 0;
+    let mut place = 255;
     loop {
-        let visited = at_fork_of_v4(prefixes, forks, at, depth, address, first, half, walked);
+        let visited = at_fork_of_v4(prefixes, forks, at, place, address, first, half, walked);
         walked = visited.walked;
         if visited.next == 0 {
             return walked;
         }
         at = visited.next;
-        depth = visited.depth;
+        place = visited.place;
     }
 }
 

@@ -7,7 +7,7 @@ use Rattle.ip_table.proofs.walk.walk.Given as goal
 abbrev pub invariant-loop-address : goal.invariant-loop-address
 invariant-loop-address l = record {
   within : l.at < length l.forks;
-  level : l.depth ≡ (fork_at l.forks l.at).depth;
+  level : l.place ≡ 255 - (fork_at l.forks l.at).depth;
   meets : SharesBits l.prefixes l.forks l.address l.at;
   sound : IsTrueOf l.prefixes l.address l.walked;
   each : (row : ℕ) → row < length l.prefixes

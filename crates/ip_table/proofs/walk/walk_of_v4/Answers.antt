@@ -14,7 +14,7 @@ loop-address-init c =
     let own = (here c.args.prefixes.now c.args.forks.now 0).address in
     record {
       within = c.requires.some;
-      level = sym c.requires.tree.root;
+      level = omega (arith, c.requires.tree.root);
       meets = subst (λ n. first_bits n own ≡ first_bits n a) (sym c.requires.tree.begin)
           (no_bits own a
           (number_low own
@@ -48,7 +48,7 @@ loop-address-preserved c =
     let goes = e.goes (omega arith) in
     record {
       within = goes.within;
-      level = e.depth (omega arith);
+      level = e.place (omega arith);
       meets = goes.meets;
       sound = e.sound;
       each = λ row h family.
