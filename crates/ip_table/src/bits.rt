@@ -118,7 +118,8 @@ pub(crate) fn window_of_half(depth: u8, half: u64) -> u32
 #[inline(always)]
 pub(crate) fn shared_before(depth: u8, a: u32, b: u32) -> u32
     requires { depth ≤ 96 }
-    ensures { (m : ℕ) → m ≤ 32 → (depth + m ≤ result ↔ (a / 2 ^ (32 - m) ≡ b / 2 ^ (32 - m))) }
+    ensures low { result ≤ 128 }
+    ensures same { (m : ℕ) → m ≤ 32 → (depth + m ≤ result ↔ (a / 2 ^ (32 - m) ≡ b / 2 ^ (32 - m))) }
 {
     u32::from(depth) + (a ^ b).leading_zeros()
 }

@@ -49,7 +49,7 @@ fn at_fork(
     let shared = shared_at(prefixes, fork, address, number);
     let on = has_bit(depth, number);
     visit(
-        prefixes, forks, at, fork, shared, on, depth, address, walked,
+        prefixes, forks, at, fork, shared, on, depth, place, address, walked,
     )
 }
 
@@ -82,7 +82,7 @@ fn at_fork_of_v4(
     let shared = shared_at_first(prefixes, fork, address, first);
     let on = has_bit_at(place, half);
     visit(
-        prefixes, forks, at, fork, shared, on, depth, address, walked,
+        prefixes, forks, at, fork, shared, on, depth, place, address, walked,
     )
 }
 
@@ -101,6 +101,7 @@ fn visit(
     shared: u32,
     on: bool,
     depth: u32,
+    place: u32,
     address: IpAddress,
     walked: Walked,
 ) -> Visited
@@ -111,12 +112,14 @@ fn visit(
     requires shared { (n : ℕ) → n ≤ (prefix_at prefixes.now fork.row).length
         → (n ≤ shared ↔ (first_bits n (prefix_at prefixes.now fork.row).address
         ≡ first_bits n address)) }
+    requires few { shared < 256 }
     requires depth { depth ≡ (fork_at forks.now at).depth }
+    requires place { place + depth ≡ 255 }
     requires on { cond on 1 0 ≡ bit_behind depth address }
     requires sound { IsTrueOf prefixes.now address walked }
     ensures { IsVisit prefixes.now forks.now address at walked result }
 {
-    if shared < depth {
+    if shared + place < 255 {
         return Visited {
             walked: with_apart(prefixes, fork.row, shared, address, walked),
             next: 0,
@@ -174,7 +177,8 @@ fn shared_at(prefixes: &[IpPrefix], fork: Fork, address: IpAddress, number: u128
         ≡ first_bits fork.start address }
     requires window { fork.window ≡ window fork.start (prefix_at prefixes.now fork.row).address }
     requires number { number ≡ number_of address }
-    ensures { (n : ℕ) → n ≤ (prefix_at prefixes.now fork.row).length
+    ensures low { result < 256 }
+    ensures same { (n : ℕ) → n ≤ (prefix_at prefixes.now fork.row).length
         → (n ≤ result ↔ (first_bits n (prefix_at prefixes.now fork.row).address ≡ first_bits n address)) }
 {
     let window = window_of(fork.start, number);
@@ -198,7 +202,8 @@ fn shared_at_first(prefixes: &[IpPrefix], fork: Fork, address: IpAddress, first:
         ≡ first_bits fork.start address }
     requires window { fork.window ≡ window fork.start (prefix_at prefixes.now fork.row).address }
     requires first { first ≡ window 0 address }
-    ensures { (n : ℕ) → n ≤ (prefix_at prefixes.now fork.row).length
+    ensures low { result < 256 }
+    ensures same { (n : ℕ) → n ≤ (prefix_at prefixes.now fork.row).length
         → (n ≤ result ↔ (first_bits n (prefix_at prefixes.now fork.row).address ≡ first_bits n address)) }
 {
     shared_before(0, fork.window, first)

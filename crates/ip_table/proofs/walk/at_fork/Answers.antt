@@ -11,3 +11,12 @@ visit-requires-clause-depth c =
           c.requires.tree c.args.at c.requires.at,
       c.requires.place,
     )
+
+pub visit-requires-clause-place : goal.visit-requires-clause-place
+visit-requires-clause-place c =
+    omega (
+      arith,
+      shallow c.args.prefixes.now c.args.forks.now (width_of c.args.address) c.requires.prefixes
+          c.requires.tree c.args.at c.requires.at,
+      c.requires.place,
+    )

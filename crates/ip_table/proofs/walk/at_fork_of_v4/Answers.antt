@@ -21,3 +21,10 @@ visit-requires-clause-depth c =
     (narrow c.args.prefixes.now c.args.forks.now (width_of c.args.address) c.requires.prefixes
     c.requires.tree c.args.at c.requires.at c.requires.family).1 in
     omega (arith, low, c.requires.place)
+
+pub visit-requires-clause-place : goal.visit-requires-clause-place
+visit-requires-clause-place c =
+    let low =
+    (narrow c.args.prefixes.now c.args.forks.now (width_of c.args.address) c.requires.prefixes
+    c.requires.tree c.args.at c.requires.at c.requires.family).1 in
+    omega (arith, low, c.requires.place)

@@ -6,8 +6,8 @@ use Rattle.ip_table.specs.Trees.{fork_at, here, child, bit_behind, IsDone}
 use Rattle.ip_table.proofs.Visits.{same_way, not_here, next_pair, other_pair, turned, past_deep, visited}
 use Rattle.ip_table.proofs.walk.visit.Goals as goal
 
-pub returns-then-shared-depth : goal.returns-then-shared-depth
-returns-then-shared-depth c =
+pub returns-then-shared-place-lt255 : goal.returns-then-shared-place-lt255
+returns-then-shared-place-lt255 c =
     let same =
     same_way c.args.prefixes.now c.args.forks.now c.args.address (width_of c.args.address)
     c.args.at (c.requires.tree.each c.args.at c.requires.at) c.args.fork c.requires.fork
@@ -16,7 +16,7 @@ returns-then-shared-depth c =
     c.args.at c.requires.at c.with_apart.result
     (subst (λ (n : Fork). IsDone c.args.prefixes.now c.args.address c.with_apart.result n.row)
     c.requires.fork c.with_apart.ensures.done)
-    (λ e. absurd (omega (arith, same.1 e, c.if-shared-depth.true, c.requires.depth)))
+    (λ e. absurd (omega (arith, same.1 e, c.if-shared-place-lt255.true, c.requires.depth, c.requires.place)))
     c.args.walked c.with_apart.ensures.sound c.with_apart.ensures.keeps
 
 pub returns-then-shared-from : goal.returns-then-shared-from
@@ -28,7 +28,7 @@ returns-then-shared-from c =
     let fork = c.requires.tree.each c.args.at c.requires.at in
     let way : first_bits d (here ps fs c.args.at).address ≡ first_bits d a =
     (same_way ps fs a (width_of a) c.args.at fork c.args.fork c.requires.fork c.args.shared
-    c.requires.shared).0 (omega (arith, c.if-shared-depth.false, c.requires.depth)) in
+    c.requires.shared).0 (omega (arith, c.if-shared-place-lt255.false, c.requires.depth, c.requires.place)) in
     let done : IsDone ps a c.with_apart-then-shared-from.result (fork_at fs c.args.at).row =
     subst (λ (n : Fork). IsDone ps a c.with_apart-then-shared-from.result n.row) c.requires.fork
     c.with_apart-then-shared-from.ensures.done in
@@ -60,7 +60,7 @@ returns c =
     let way : first_bits d (here ps fs c.args.at).address ≡ first_bits d a =
     (same_way ps fs a (width_of a) c.args.at (c.requires.tree.each c.args.at c.requires.at)
     c.args.fork c.requires.fork c.args.shared
-    c.requires.shared).0 (omega (arith, c.if-shared-depth.false, c.requires.depth)) in
+    c.requires.shared).0 (omega (arith, c.if-shared-place-lt255.false, c.requires.depth, c.requires.place)) in
     let done : IsDone ps a c.with_row-here.result (fork_at fs c.args.at).row =
     subst (λ (n : Fork). IsDone ps a c.with_row-here.result n.row) c.fork_of-row.ensures
     c.with_row-here.ensures.done in
