@@ -1,4 +1,4 @@
-use Rattle.std.proofs.Common.{◌≡◌, ◌∙◌, ◌<◌, ◌≤◌, ◌↔◌, ℕ, List, min, sym, ap, subst, arith}
+use Rattle.std.proofs.Common.{◌≡◌, ◌∙◌, ◌<◌, ◌≤◌, ◌↔◌, ℕ, List, sym, ap, subst, arith}
 use Rattle.ip_table.specs.declared.tree.Fork.{Fork}
 use Rattle.ip_table.specs.Bits.{width_of, number_of, first_bits}
 use Rattle.ip_table.specs.Prefixes.{Prefix}

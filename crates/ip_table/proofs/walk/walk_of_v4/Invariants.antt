@@ -1,5 +1,5 @@
 -- the walk is on the way of the address, and each row of the family stands ahead of it or is done
-use Rattle.std.proofs.Common.{◌≡◌, ℕ, ◌-◌, ◌<◌, ◌≤◌, ◌⊎◌, length}
+use Rattle.std.proofs.Common.{◌≡◌, ℕ, ◌-◌, ◌<◌, ◌⊎◌, length}
 use Rattle.ip_table.specs.Bits.{width_of}
 use Rattle.ip_table.specs.Trees.{SharesBits, IsTrueOf, IsDone, StandsBelow, prefix_at, fork_at}
 use Rattle.ip_table.proofs.walk.walk_of_v4.Given as goal
