@@ -5,3 +5,4 @@ pub mod Refused
 pub mod Reporting
 pub mod Staying
 mod Told
+mod Settling

@@ -350,20 +350,33 @@ impl Store {
         )
     }
 
-    /// Makes the reply to a packet where it is the same whoever asks, whatever the health of sets is, and
-    /// says how many octets it has; else None. It takes no memory.
-    pub fn settle(&mut self, packet: &[u8], reply: &mut Reply) -> Option<usize>
+    /// Makes the reply to a packet where it is the same whoever asks, as long as no command is made and no set becomes
+    /// healthy or unhealthy, and says how many octets it has; else None. It takes no memory.
+    pub fn settle(&mut self, tables: &Tables, packet: &[u8], reply: &mut Reply) -> Option<usize>
         requires room { 4096 ≤ reply.old.room }
-        ensures answers { IfSome result (λ n. AnswersAll (config_of self.old.kept).zones
-            (config_of self.old.kept).collections.list packet.now reply.new.bytes) }
-        ensures settled { IfSome result (λ n. IsSettled (config_of self.old.kept).zones
-            (config_of self.old.kept).collections.list (drop 2 packet.now) (drop 2 reply.new.bytes)) }
+        ensures answers { IfSome result (λ n. (engine : Engine) → StandsFor engine self.old
+            → AnswersAll engine.config.zones engine.config.collections.list
+            (is_healthy engine.config engine.reports) packet.now reply.new.bytes) }
+        ensures settled { IfSome result (λ n. (engine : Engine) → StandsFor engine self.old
+            → IsSettled engine.config.zones engine.config.collections.list
+            (is_healthy engine.config engine.reports) (drop 2 packet.now) (drop 2 reply.new.bytes)) }
         ensures same { self.new ≡ self.old }
         ensures length { IfSome result (λ n. n ≡ length reply.new.bytes) }
         ensures room { reply.new.room ≡ reply.old.room }
         ensures unsettled { result ≡ None → reply.new ≡ reply.old }
     {
-        settle(self.kept.config().zones(), packet, &mut self.scratch, reply)
+        let config = self.kept.config();
+        config.well_formed();
+        sound_is_served();
+        index_serves();
+        settle(
+            config.zones(),
+            &self.index,
+            tables,
+            packet,
+            &mut self.scratch,
+            reply,
+        )
     }
 
     /// The status of a check, with the number of its checkers that see a pass, or of its healthy

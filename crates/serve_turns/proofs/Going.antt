@@ -1,5 +1,5 @@
 -- Stores that stand for more and more reports.
-use Rattle.std.proofs.Common.{◌≡◌, List, [], ◌∷◌, ◌++◌, ap, sym, ◌∙◌, refl, subst, append_assoc}
+use Rattle.std.proofs.Common.{◌≡◌, List, [], ◌∷◌, ◌++◌, sym, subst, append_assoc}
 use Rattle.session_model.specs.Engine.{Engine, ReportSteps}
 use Rattle.session_model.specs.ReportedRecord.{Reported}
 use Rattle.session_model.specs.ReportedRecord.TheVariants as reported

@@ -1,4 +1,5 @@
 pub mod Going
+pub mod Health
 pub mod Packets
 pub mod Reports
 pub mod Settled

@@ -4,7 +4,6 @@ use Rattle.session_model.specs.Engine.{Engine, QueryGives}
 use Rattle.geo_latency.specs.declared.tables.Tables.{Tables}
 use Rattle.r53_io.specs.Network.{Dns, Incoming}
 use Rattle.r53_io.specs.declared.network.Peer.{Peer}
-use Rattle.session_model.specs.TurnsRecord.{Turns}
 use Rattle.serve_turns.specs.Turning.{PacketLeaves, Standing, IsAsDefined, TurnLeaves}
 use Rattle.serve_turns.specs.declared.turning.Turn.{Turn}
 use Rattle.serve_turns.specs.declared.turning.Turn.TheVariants as turn

@@ -1,14 +1,12 @@
 -- A datagram of the report port.
-use Rattle.std.proofs.Common.{◌≡◌, ◌≤◌, ◌<◌, ℕ, List, ◌∷◌, Bool, true, false, Option, None, Some, sym, ◌∙◌, ap, subst, refl, inl, inr, arith}
+use Rattle.std.proofs.Common.{◌≡◌, ◌<◌, ℕ, List, ◌∷◌, Bool, true, false, Some, sym, ◌∙◌, subst, refl, inl, inr, arith}
 use Rattle.std.specs.Prelude.{if◌then◌else◌}
 use Rattle.check_lines.specs.declared.observing.Observation.{Observation}
 use Rattle.session_model.specs.Engine.{Engine, IsEndpoint, ReportSteps}
 use Rattle.session_model.specs.ReportedRecord.TheVariants as reported
 use Rattle.geo_latency.specs.declared.tables.Tables.{Tables}
-use Rattle.r53_core.specs.Stores.{StandsFor, State as Store}
 use Rattle.r53_io.specs.Network.{Incoming, Report}
 use Rattle.report_lines.specs.Reports.{report_of}
-use Rattle.session_model.specs.TurnsRecord.{Turns}
 use Rattle.serve_turns.specs.Turning.{IsReported, Standing, IsAsDefined, TurnLeaves}
 use Rattle.serve_turns.specs.declared.turning.Turn.TheVariants as turn
 use Rattle.session_model.specs.Serving.{Datagram, IsKnown, TurnsOutcome, TakesTurn, after_report}
@@ -17,26 +15,22 @@ use Rattle.session_model.specs.Serving.{reported_too, unknown_too}
 some_same : {X : Type 0} {x y : X} → Some x ≡ Some y → x ≡ y
 some_same e = cc
 
-module _ (engine after : Engine) (octets : List ℕ) (seen : Observation) (store : Store)
-    (is : report_of octets ≡ Some seen) (stands : StandsFor after store) where
+module _ (engine after : Engine) (octets : List ℕ) (seen : Observation) (P : Engine → Type 0)
+    (is : report_of octets ≡ Some seen) (stands : P after) where
   pub taken : ReportSteps engine seen.id seen.checker seen.pass reported.Taken after
-      → IsReported true engine octets (λ e. StandsFor e store)
-  taken (endpoint, within, same) = (
-    seen,
-    (is, endpoint),
-    subst (λ (e : Engine). StandsFor e store) same stands,
-  )
+      → IsReported true engine octets P
+  taken (endpoint, within, same) = (seen, (is, endpoint), subst P same stands)
 
   pub no_check : ReportSteps engine seen.id seen.checker seen.pass reported.NoSuchHealthCheck after
-      → IsReported false engine octets (λ e. StandsFor e store)
+      → IsReported false engine octets P
   no_check (none, same) = (
     λ other known. none (subst (λ (s : Observation). IsEndpoint engine.config s.id)
         (some_same (sym known.0 ∙ is)) known.1),
-    subst (λ (e : Engine). StandsFor e store) same stands,
+    subst P same stands,
   )
 
   pub no_checker : ReportSteps engine seen.id seen.checker seen.pass reported.BadChecker after
-      → seen.checker < 50 → IsReported false engine octets (λ e. StandsFor e store)
+      → seen.checker < 50 → IsReported false engine octets P
   no_checker (endpoint, many, same) few = absurd (omega (arith, many, few))
 
 -- ---- its turn

@@ -6,24 +6,17 @@ use Rattle.geo_latency.specs.declared.tables.Tables.{Tables}
 use Rattle.packet_cache.specs.Kept.{Keeps, KeepsNoMoreBut, Kept, kept_of}
 use Rattle.session_model.specs.Engine.{Engine, QueryGives, is_healthy}
 use Rattle.r53_core.specs.Asking.{answer_of}
-use Rattle.r53_core.specs.Journaled.{State, config_of}
+use Rattle.r53_core.specs.Stores.{StandsFor, State as Store}
 use Rattle.settled_replies.specs.Names.{AreOctets}
-use Rattle.settled_replies.specs.Reply.{Answers, Asker}
+use Rattle.settled_replies.specs.Reply.{Asker}
 use Rattle.settled_replies.specs.Settled.{AnswersAll, IsSettled}
-use Rattle.serve_turns.specs.Settled.{AreSettled}
+use Rattle.serve_turns.specs.Settled.{AreSettled, Serves}
 
 -- What answers whoever asks answers the one who does.
-pub by_all : (engine : Engine) (state : State) (tables : Tables) (asker : Asker) (packet octets : List ℕ)
-    → engine.config ≡ config_of state
-    → AnswersAll (config_of state).zones (config_of state).collections.list packet octets
+pub by_all : (engine : Engine) (tables : Tables) (asker : Asker) (packet octets : List ℕ)
+    → AnswersAll engine.config.zones engine.config.collections.list (is_healthy engine.config engine.reports) packet octets
     → QueryGives engine tables asker packet (Some octets)
-by_all engine state tables asker packet octets same all =
-    subst (λ config. Answers (record {
-      zones = config.zones;
-      collections = config.collections.list;
-      healthy = is_healthy engine.config engine.reports;
-      tables = tables;
-    }) asker packet (Some octets)) (sym same) (all (is_healthy engine.config engine.reports) tables asker)
+by_all engine tables asker packet octets all = all tables asker
 
 take_two : (n : ℕ) (xs : List ℕ) → 2 ≤ n → take 2 (take n xs) ≡ take 2 xs
 take_two zero xs many = absurd (omega (arith, many))
@@ -39,31 +32,41 @@ two_left (suc (suc n)) [] many within = absurd (omega (arith, within))
 two_left (suc (suc n)) (x ∷ []) many within = absurd (omega (arith, within))
 two_left (suc (suc n)) (x ∷ y ∷ xs) many within = omega arith
 
-module _ (state : State) where
+module _ (engine : Engine) where
   -- a packet whose reply is kept, which stands in its place
-  pub answered_by : (replies : List (Option Kept)) → AreSettled state replies → (packet after : List ℕ)
+  pub answered_by : (replies : List (Option Kept)) → AreSettled engine replies → (packet after : List ℕ)
       (len size : ℕ) (reply : List ℕ) → 2 ≤ len → len ≤ length packet → AreOctets (take len packet)
       → Keeps replies (record { packet = drop 2 (take len packet); reply = reply })
       → take size after ≡ take 2 packet ++ reply
-      → AnswersAll (config_of state).zones (config_of state).collections.list (take len packet) (take size after)
+      → AnswersAll engine.config.zones engine.config.collections.list
+      (is_healthy engine.config engine.reports) (take len packet) (take size after)
   answered_by replies are packet after len size reply many within octets keeps is =
-      subst (λ (o : List ℕ). AnswersAll (config_of state).zones (config_of state).collections.list (take len packet) o)
+      subst (λ (o : List ℕ). AnswersAll engine.config.zones engine.config.collections.list
+      (is_healthy engine.config engine.reports) (take len packet) o)
       (ap (λ (l : List ℕ). l ++ reply) (take_two len packet many) ∙ sym is)
       (are (record { packet = drop 2 (take len packet); reply = reply }) keeps (take len packet) octets
       (two_left len packet many within) refl)
 
   -- one more is kept
-  pub with_one : (old new : List (Option Kept)) (packet reply : List ℕ) → AreSettled state old
-      → IsSettled (config_of state).zones (config_of state).collections.list (drop 2 packet) (drop 2 reply)
-      → KeepsNoMoreBut (kept_of packet reply) old new → AreSettled state new
+  pub with_one : (old new : List (Option Kept)) (packet reply : List ℕ) → AreSettled engine old
+      → IsSettled engine.config.zones engine.config.collections.list (is_healthy engine.config engine.reports) (drop 2 packet) (drop 2 reply)
+      → KeepsNoMoreBut (kept_of packet reply) old new → AreSettled engine new
   with_one old new packet reply are settled more kept keeps = by (more kept keeps)
     where
       by : Keeps old kept ⊎ (kept ≡ kept_of packet reply)
-          → IsSettled (config_of state).zones (config_of state).collections.list kept.packet kept.reply
+          → IsSettled engine.config.zones engine.config.collections.list (is_healthy engine.config engine.reports) kept.packet kept.reply
       by (inl before) = are kept before
       by (inr is) =
-          subst (λ (k : Kept). IsSettled (config_of state).zones (config_of state).collections.list k.packet k.reply)
+          subst (λ (k : Kept). IsSettled engine.config.zones engine.config.collections.list (is_healthy engine.config engine.reports) k.packet k.reply)
           (sym is) settled
+
+-- one store and one list of kept replies
+pub served_same : (engine : Engine) (old new : Store) (replies others : List (Option Kept)) → new ≡ old
+    → others ≡ replies → Serves engine old replies → Serves engine new others
+served_same engine old new replies others same kept its = record {
+  stands = subst (λ (s : Store). StandsFor engine s) (sym same) its.stands;
+  settled = subst (λ (r : List (Option Kept)). AreSettled engine r) (sym kept) its.settled;
+}
 
 -- what is told of a reply, where there is one, and where there is none
 pub some_told : (result : Option ℕ) (reply : Draft) (Q : Option (List ℕ) → Type 0) → Q (answer_of result reply)

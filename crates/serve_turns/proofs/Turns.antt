@@ -1,5 +1,5 @@
 -- Turns, one after another.
-use Rattle.std.proofs.Common.{◌≡◌, ◌≤◌, ◌<◌, ℕ, zero, suc, ◌+◌, ◌-◌, List, [], ◌∷◌, ◌++◌, Option, Some, ap, ◌∙◌, sym, refl, subst, arith, append-nil}
+use Rattle.std.proofs.Common.{◌≡◌, ◌≤◌, ◌<◌, ℕ, zero, suc, ◌+◌, ◌-◌, List, [], ◌∷◌, Option, Some, ap, ◌∙◌, sym, refl, subst, arith, append-nil}
 use Rattle.session_model.specs.Engine.{Engine}
 use Rattle.geo_latency.specs.declared.tables.Tables.{Tables}
 use Rattle.r53_core.specs.Stores.{StandsFor, State as Store}
@@ -49,32 +49,32 @@ module _ (tables : Tables) where
 module _ (tables : Tables) (start : Store) (words : Stream) (coming : Option (List Incoming))
     (sent : Option (List Datagram)) where
   pub record Told (engine : Engine) (arrivals : List Incoming) (before : List Datagram)
-      (store : Store) (now : Standing) : Type 0 where
+      (held : Engine → Type 0) (now : Standing) : Type 0 where
     pub left : List Incoming
     pub served : TurnsOutcome
     pub taken : TakesTurns tables now.turns.turns arrivals (first engine words) left served
-    pub stands_for : StandsFor served.engine store
+    pub stands_for : held served.engine
     pub stands : IsAsDefined before served left now
 
-  abbrev pub SoFar : Store → Standing → Type 0
-  SoFar store now = (engine : Engine) (arrivals : List Incoming) (before : List Datagram)
+  abbrev pub SoFar : (held : Engine → Type 0) → Standing → Type 0
+  SoFar held now = (engine : Engine) (arrivals : List Incoming) (before : List Datagram)
       → StandsFor engine start → coming ≡ Some arrivals → sent ≡ Some before
-      → Told engine arrivals before store now
+      → Told engine arrivals before held now
 
   -- what comes of a turn
-  abbrev pub Turned : (store next : Store) (now then : Standing) → Turn → Type 0
-  Turned store next now then came = (before : List Datagram) (old : TurnsOutcome)
-      (arrivals : List Incoming) → StandsFor old.engine store → IsAsDefined before old arrivals now
-      → TurnLeaves came tables before old arrivals (λ engine. StandsFor engine next) then
+  abbrev pub Turned : (held next : Engine → Type 0) (now then : Standing) → Turn → Type 0
+  Turned held next now then came = (before : List Datagram) (old : TurnsOutcome)
+      (arrivals : List Incoming) → held old.engine → IsAsDefined before old arrivals now
+      → TurnLeaves came tables before old arrivals next then
 
   number : (m n : ℕ) → n ≡ m + 1 → suc m ≡ n
   number m n same = omega (arith, same)
 
   -- a turn more
-  pub goes_on : (store next : Store) (now then : Standing) → SoFar store now
-      → Counts turn.Taken now.turns then.turns → Turned store next now then turn.Taken
+  pub goes_on : (held next : Engine → Type 0) (now then : Standing) → SoFar held now
+      → Counts turn.Taken now.turns then.turns → Turned held next now then turn.Taken
       → SoFar next then
-  goes_on store next now then so_far counts leaves engine arrivals before stands_for comes was =
+  goes_on held next now then so_far counts leaves engine arrivals before stands_for comes was =
       let told = so_far engine arrivals before stands_for comes was in
       let its = leaves before told.served told.left told.stands_for told.stands in
       record {
@@ -92,14 +92,13 @@ module _ (tables : Tables) (start : Store) (words : Stream) (coming : Option (Li
 
   -- ---- the end
 
-  module _ (n : ℕ) (store next : Store) (now then : Standing) (so_far : SoFar store now) where
-    abbrev pub Ends : Answer → Store → Standing → Type 0
+  module _ (n : ℕ) (held next : Engine → Type 0) (now then : Standing) (so_far : SoFar held now) where
+    abbrev pub Ends : Answer → (left : Engine → Type 0) → Standing → Type 0
     Ends came left at = (engine : Engine) (arrivals : List Incoming) (before : List Datagram)
         → StandsFor engine start → coming ≡ Some arrivals → sent ≡ Some before
-        → TurnsLeave came tables before n (first engine words) arrivals
-        (λ after. StandsFor after left) (with_turns none at)
+        → TurnsLeave came tables before n (first engine words) arrivals left (with_turns none at)
 
-    pub all_taken : now.turns.turns ≡ n → Ends (answer.Took now.turns) store now
+    pub all_taken : now.turns.turns ≡ n → Ends (answer.Took now.turns) held now
     all_taken all engine arrivals before stands_for comes was =
         let told = so_far engine arrivals before stands_for comes was in (
           told.left,
@@ -111,7 +110,7 @@ module _ (tables : Tables) (start : Store) (words : Stream) (coming : Option (Li
         )
 
     pub at_close : now.turns.turns ≤ n → then.turns ≡ now.turns
-        → Turned store next now then turn.Closed → Ends (answer.Took then.turns) next then
+        → Turned held next now then turn.Closed → Ends (answer.Took then.turns) next then
     at_close within same leaves engine arrivals before stands_for comes was =
         let told = so_far engine arrivals before stands_for comes was in
         let its = leaves before told.served told.left told.stands_for told.stands in
@@ -127,7 +126,7 @@ module _ (tables : Tables) (start : Store) (words : Stream) (coming : Option (Li
           its.2,
         )
 
-    pub at_fault : now.turns.turns < n → Turned store next now then turn.Failed
+    pub at_fault : now.turns.turns < n → Turned held next now then turn.Failed
         → Ends answer.Failed next then
     at_fault more leaves engine arrivals before stands_for comes was =
         let told = so_far engine arrivals before stands_for comes was in
@@ -144,16 +143,17 @@ module _ (tables : Tables) (start : Store) (words : Stream) (coming : Option (Li
 
 -- the beginning
 pub at_start : (tables : Tables) (start : Store) (words : Stream) (coming : Option (List Incoming))
-    (sent : Option (List Datagram)) (turns : Turns) → turns ≡ none
-    → SoFar tables start words coming sent start
+    (sent : Option (List Datagram)) (turns : Turns) → turns ≡ none → (held : Engine → Type 0)
+    → ((engine : Engine) → StandsFor engine start → held engine)
+    → SoFar tables start words coming sent held
     (record { words = words; turns = turns; coming = coming; sent = sent })
-at_start tables start words coming sent turns none_yet engine arrivals before stands_for comes was =
+at_start tables start words coming sent turns none_yet held here engine arrivals before stands_for comes was =
     record {
       left = arrivals;
       served = first engine words;
       taken = subst (λ (t : Turns). TakesTurns tables t.turns arrivals (first engine words) arrivals
           (first engine words)) (sym none_yet) (refl, refl);
-      stands_for = stands_for;
+      stands_for = here engine stands_for;
       stands = record {
         words = refl;
         turns = sym none_yet;
@@ -161,6 +161,15 @@ at_start tables start words coming sent turns none_yet engine arrivals before st
         sent = was ∙ ap Some (sym (append-nil before));
       };
     }
+
+-- what turns leave says less where less is said of the store
+pub leave_less : (came : Answer) (tables : Tables) (before : List Datagram) (n : ℕ) (old : TurnsOutcome)
+    (arrivals : List Incoming) (P Q : Engine → Type 0) (now : Standing) → ((engine : Engine) → P engine → Q engine)
+    → TurnsLeave came tables before n old arrivals P now → TurnsLeave came tables before n old arrivals Q now
+leave_less (answer.Took turns) tables before n old arrivals P Q now less (left, new, taken, here, stands) =
+    (left, new, taken, less new.engine here, stands)
+leave_less answer.Failed tables before n old arrivals P Q now less (k, left, new, few, taken, here, sent, more) =
+    (k, left, new, few, taken, less new.engine here, sent, more)
 
 -- ---- counts
 

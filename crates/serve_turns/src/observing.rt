@@ -1,29 +1,48 @@
 //! Reports of health checkers.
 
-ghost use Rattle.std.specs.Prelude.{◌≡◌, ◌<◌};
+ghost use Rattle.std.specs.Prelude.{◌≡◌, ◌<◌, IsTrue, option_map};
 ghost use Rattle.session_model.specs.Engine.{Engine, ReportSteps};
 ghost use Rattle.r53_core.specs.Stores.{StandsFor};
+ghost use Rattle.serve_turns.specs.Settled.{Serves};
 ghost use Rattle.serve_turns.specs.Turning.{GoesOn, IsReported};
 
+use packet_cache::PacketCache;
 use r53_core::{Reported, Steps, Store};
 use report_lines::{Observation, read_report};
 use std::marker::Brand;
 use std::sync::ledger::{Blank, Ledger};
 
-/// Takes a datagram of the report port, and tells whether it is a report that counts.
-pub(crate) fn observe(store: &mut Store, datagram: &[u8]) -> bool
-    ensures taken { (engine : Engine) → StandsFor engine store.old
-        → IsReported result engine datagram.now (λ after. StandsFor after store.new) }
+/// Takes a datagram of the report port, and tells whether it is a report that counts. Where the status of its check
+/// changes, no reply is kept any more.
+pub(crate) fn observe(store: &mut Store, datagram: &[u8], replies: &mut PacketCache) -> bool
+    ensures taken { (engine : Engine) → Serves engine store.old replies.old
+        → IsReported result engine datagram.now (λ after. Serves after store.new replies.new) }
     ensures reports { GoesOn store.old store.new }
     ensures kept { store.new.kept ≡ store.old.kept }
 {
     let Some(seen) = read_report(datagram) else {
         return false;
     };
+    let before = store.check_status(seen.id);
     match take_once(store, seen) {
-        Reported::Taken => true,
+        Reported::Taken => {
+            if !is_same_status(before, store.check_status(seen.id)) {
+                replies.clear();
+            }
+            true
+        }
         Reported::NoSuchHealthCheck => false,
         Reported::BadChecker => false,
+    }
+}
+
+/// Whether a check has one status in both, as they are told with its number.
+fn is_same_status(before: Option<(bool, u16)>, after: Option<(bool, u16)>) -> bool
+    ensures { IsTrue result → option_map (λ told. told.0) before ≡ option_map (λ told. told.0) after }
+{
+    match (before, after) {
+        (Some((old, _)), Some((new, _))) => old == new,
+        _ => false,
     }
 }
 

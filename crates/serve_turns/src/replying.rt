@@ -1,10 +1,9 @@
 //! The reply to a packet, which is kept or made.
 
 ghost use Rattle.std.specs.Prelude.{◌≡◌, ◌≤◌, length, take, None, Some, IfSome};
-ghost use Rattle.session_model.specs.Engine.{Engine, QueryGives};
-ghost use Rattle.r53_core.specs.Journaled.{config_of};
+ghost use Rattle.session_model.specs.Engine.{Engine, QueryGives, is_healthy};
 ghost use Rattle.r53_core.specs.Stores.{StandsFor};
-ghost use Rattle.serve_turns.specs.Settled.{AreSettled, IsThere, octets_of};
+ghost use Rattle.serve_turns.specs.Settled.{IsThere, Serves, octets_of};
 ghost use Rattle.settled_replies.specs.Names.{AreOctets};
 ghost use Rattle.settled_replies.specs.Settled.{AnswersAll};
 
@@ -40,14 +39,14 @@ pub(crate) fn reply_to(
     reply: &mut Reply,
 ) -> Told
     requires len { len ≤ length packet.old }
-    requires settled { AreSettled store.old.kept replies.old }
     requires room { 4096 ≤ reply.old.room }
-    ensures gives { (engine : Engine) → StandsFor engine store.old
+    ensures gives { (engine : Engine) → Serves engine store.old replies.old
         → QueryGives engine tables.now (record { peer = peer; words = words.now }) (take len packet.old)
         (octets_of result packet.new reply.new.bytes) }
     ensures there { IsThere result packet.new }
     ensures same { store.new ≡ store.old }
-    ensures settled { AreSettled store.new.kept replies.new }
+    ensures serves { (engine : Engine) → Serves engine store.old replies.old
+        → Serves engine store.new replies.new }
     ensures packet { length packet.new ≡ length packet.old }
     ensures room { reply.new.room ≡ reply.old.room }
 {
@@ -98,7 +97,6 @@ fn made(
     replies: &mut PacketCache,
     reply: &mut Reply,
 ) -> Option<usize>
-    requires settled { AreSettled store.old.kept replies.old }
     requires room { 4096 ≤ reply.old.room }
     ensures some { IfSome result (λ n. (engine : Engine) → StandsFor engine store.old
         → QueryGives engine tables.now (record { peer = peer; words = words.now }) packet.now
@@ -106,13 +104,14 @@ fn made(
     ensures none { result ≡ None → (engine : Engine) → StandsFor engine store.old
         → QueryGives engine tables.now (record { peer = peer; words = words.now }) packet.now None }
     ensures same { store.new ≡ store.old }
-    ensures settled { AreSettled store.new.kept replies.new }
+    ensures serves { (engine : Engine) → Serves engine store.old replies.old
+        → Serves engine store.new replies.new }
     ensures room { reply.new.room ≡ reply.old.room }
 {
     if !replies.note(key) {
         return store.query(tables, packet, peer, words, reply);
     }
-    match settled(store, packet, key, replies, reply) {
+    match settled(store, tables, packet, key, replies, reply) {
         Some(size) => Some(size),
         None => store.query(tables, packet, peer, words, reply),
     }
@@ -123,20 +122,22 @@ fn made(
 #[inline(never)]
 fn settled(
     store: &mut Store,
+    tables: &Tables,
     packet: &[u8],
     key: u64,
     replies: &mut PacketCache,
     reply: &mut Reply,
 ) -> Option<usize>
-    requires settled { AreSettled store.old.kept replies.old }
     requires room { 4096 ≤ reply.old.room }
-    ensures answers { IfSome result (λ n. AnswersAll (config_of store.old.kept).zones
-        (config_of store.old.kept).collections.list packet.now reply.new.bytes) }
+    ensures answers { IfSome result (λ n. (engine : Engine) → StandsFor engine store.old
+        → AnswersAll engine.config.zones engine.config.collections.list
+        (is_healthy engine.config engine.reports) packet.now reply.new.bytes) }
     ensures same { store.new ≡ store.old }
-    ensures settled { AreSettled store.new.kept replies.new }
+    ensures serves { (engine : Engine) → Serves engine store.old replies.old
+        → Serves engine store.new replies.new }
     ensures room { reply.new.room ≡ reply.old.room }
 {
-    match store.settle(packet, reply) {
+    match store.settle(tables, packet, reply) {
         Some(size) => {
             replies.keep(key, packet, reply.bytes());
             Some(size)

@@ -2,10 +2,9 @@
 
 ghost use Rattle.std.specs.Prelude.{◌≡◌, ◌≢◌, ◌≤◌, List, length, take};
 ghost use Rattle.octets.specs.Counts.{Rose};
-ghost use Rattle.r53_core.specs.Stores.{StandsFor};
 ghost use Rattle.r53_io.specs.Network.{Incoming};
 ghost use Rattle.serve_turns.specs.Turning.{AreWithin, Counts, GoesOn, PacketLeaves, IsAsDefined, TurnLeaves};
-ghost use Rattle.serve_turns.specs.Settled.{AreSettled};
+ghost use Rattle.serve_turns.specs.Settled.{Serves};
 ghost use Rattle.session_model.specs.Serving.{Datagram, TurnsOutcome};
 
 use crate::counting::{count_packet, count_quiet, count_report};
@@ -44,18 +43,17 @@ pub(crate) fn take_turn<L: Link, R: Rng>(
     turns: &mut Turns,
 ) -> Turn
     requires packet { 65535 ≤ length packet.old }
-    requires settled { AreSettled store.old.kept replies.old }
     requires room { 4096 ≤ reply.old.room }
     requires few { AreWithin 4294967294 turns.old }
     ensures leaves { (before : List Datagram) (old : TurnsOutcome) (arrivals : List Incoming)
-        → StandsFor old.engine store.old
+        → Serves old.engine store.old replies.old
         → IsAsDefined before old arrivals (record {
           words = R.stream words.old;
           turns = turns.old;
           coming = L.coming link.old;
           sent = L.sent link.old;
         })
-        → TurnLeaves result tables.now before old arrivals (λ engine. StandsFor engine store.new)
+        → TurnLeaves result tables.now before old arrivals (λ engine. Serves engine store.new replies.new)
         (record {
           words = R.stream words.new;
           turns = turns.new;
@@ -65,7 +63,6 @@ pub(crate) fn take_turn<L: Link, R: Rng>(
     ensures counted { Counts result turns.old turns.new }
     ensures reports { GoesOn store.old store.new }
     ensures kept { store.new.kept ≡ store.old.kept }
-    ensures settled { AreSettled store.new.kept replies.new }
     ensures packet { length packet.new ≡ length packet.old }
     ensures room { reply.new.room ≡ reply.old.room }
     ensures ports { L.ports link.new ≡ L.ports link.old }
@@ -77,7 +74,7 @@ pub(crate) fn take_turn<L: Link, R: Rng>(
             store, tables, link, words, peer, packet, len, replies, reply, turns,
         ),
         Arrival::Report(len) => {
-            let taken = observe(store, front(packet, len));
+            let taken = observe(store, front(packet, len), replies);
             count_report(turns, taken);
             Turn::Taken
         }
@@ -104,11 +101,10 @@ fn answer<L: Link, R: Rng>(
     turns: &mut Turns,
 ) -> Turn
     requires len { len ≤ length packet.old }
-    requires settled { AreSettled store.old.kept replies.old }
     requires room { 4096 ≤ reply.old.room }
     requires few { AreWithin 4294967294 turns.old }
     ensures leaves { (before : List Datagram) (old : TurnsOutcome) (arrivals : List Incoming)
-        → StandsFor old.engine store.old
+        → Serves old.engine store.old replies.old
         → IsAsDefined before old arrivals (record {
           words = R.stream words.old;
           turns = turns.old;
@@ -116,7 +112,7 @@ fn answer<L: Link, R: Rng>(
           sent = L.sent link.old;
         })
         → PacketLeaves result tables.now before peer (take len packet.old) old arrivals
-        (λ engine. StandsFor engine store.new)
+        (λ engine. Serves engine store.new replies.new)
         (record {
           words = R.stream words.new;
           turns = turns.new;
@@ -126,7 +122,6 @@ fn answer<L: Link, R: Rng>(
     ensures counted { Counts result turns.old turns.new }
     ensures reports { GoesOn store.old store.new }
     ensures kept { store.new.kept ≡ store.old.kept }
-    ensures settled { AreSettled store.new.kept replies.new }
     ensures packet { length packet.new ≡ length packet.old }
     ensures room { reply.new.room ≡ reply.old.room }
     ensures ports { L.ports link.new ≡ L.ports link.old }

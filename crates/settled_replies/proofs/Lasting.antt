@@ -1,5 +1,5 @@
 -- A query that one set answers alone has one reply, whoever asks and by each ID.
-use Rattle.std.proofs.Common.{◌≡◌, ◌≤◌, ◌<◌, ◌+◌, ◌*◌, ◌%◌, ◌++◌, ℕ, List, [], ◌∷◌, Option, None, Some, length, take, drop, sym, ap, ◌∙◌, subst, arith, inl}
+use Rattle.std.proofs.Common.{◌≡◌, ◌≤◌, ◌<◌, ◌+◌, ◌*◌, ◌%◌, ◌++◌, ℕ, Bool, List, [], ◌∷◌, Option, None, Some, length, take, drop, sym, ap, ◌∙◌, subst, arith, inl}
 use Rattle.std.specs.Prelude.{IfSome, slice_get}
 use Rattle.cidr_blocks.specs.declared.places.Collection.{Collection}
 use Rattle.dns_message.specs.Header.{id_of}
@@ -10,6 +10,7 @@ use Rattle.dns_name.specs.Names.{AreOctets}
 use Rattle.dns_wire.specs.Limit.{limit_of}
 use Rattle.dns_wire.specs.Message.{Message, octets_within}
 use Rattle.record_set.specs.declared.sets.RecordSet.{RecordSet}
+use Rattle.record_set.specs.declared.sets.SetKey.{SetKey}
 use Rattle.zone_lookup.specs.Laws.{NamesExist}
 use Rattle.zone_model.specs.Hosted.{HostedZone}
 use Rattle.settled_replies.specs.Plain.{IsPlain, plain_reply}
@@ -31,11 +32,12 @@ pub if_some : {P Q : Type 0} (found : Option ℕ) → (P → Q) → IfSome found
 if_some None on its = tt
 if_some (Some n) on its = on its
 
-module _ (names : NamesExist) (zones : List HostedZone) (collections : List (ℕ × Collection)) where
+module _ (names : NamesExist) (zones : List HostedZone) (collections : List (ℕ × Collection))
+    (healthy : (zone : ℕ) → SetKey → Bool) where
   pub answers_all : (packet : List ℕ) (query : Query) (set : RecordSet) (bytes : List ℕ)
-      → Judges packet (read.Query query) → IsPlain zones query set
-      → bytes ≡ octets_within (plain_reply query set) (limit_of query.edns) → AnswersAll zones collections packet bytes
-  answers_all packet query set bytes judges plain is healthy tables asker = record {
+      → Judges packet (read.Query query) → IsPlain healthy zones query set
+      → bytes ≡ octets_within (plain_reply query set) (limit_of query.edns) → AnswersAll zones collections healthy packet bytes
+  answers_all packet query set bytes judges plain is tables asker = record {
     judged = read.Query query;
     judges = judges;
     answered = ap Some (is ∙ sym (ap (λ (m : Message). octets_within m (limit_of query.edns)) (reply_is names (record {
@@ -56,14 +58,14 @@ module _ (names : NamesExist) (zones : List HostedZone) (collections : List (ℕ
       ∙ ap (λ (x : ℕ). c ∷ x ∷ drop 2 (octets_within m limit)) (low_of c d lc ld)))
 
   pub settled_all : (packet : List ℕ) (query : Query) (set : RecordSet) (bytes : List ℕ)
-      → Judges packet (read.Query query) → IsPlain zones query set
+      → Judges packet (read.Query query) → IsPlain healthy zones query set
       → bytes ≡ octets_within (plain_reply query set) (limit_of query.edns)
-      → IsSettled zones collections (drop 2 packet) (drop 2 bytes)
+      → IsSettled zones collections healthy (drop 2 packet) (drop 2 bytes)
   settled_all [] query set bytes judges plain is = absurd (judges.0.0 (inl (omega arith)))
   settled_all (a ∷ []) query set bytes judges plain is = absurd (judges.0.0 (inl (omega arith)))
   settled_all (a ∷ b ∷ t) query set bytes judges plain is = by
     where
-      one : (c d : ℕ) → c < 256 → d < 256 → AnswersAll zones collections (c ∷ d ∷ t) (c ∷ d ∷ drop 2 bytes)
+      one : (c d : ℕ) → c < 256 → d < 256 → AnswersAll zones collections healthy (c ∷ d ∷ t) (c ∷ d ∷ drop 2 bytes)
       one c d lc ld =
           answers_all (c ∷ d ∷ t) (record query { id = id_of (c ∷ d ∷ t) }) set (c ∷ d ∷ drop 2 bytes)
           (judged t a b c d query judges)
@@ -71,15 +73,14 @@ module _ (names : NamesExist) (zones : List HostedZone) (collections : List (ℕ
             heard = plain.heard;
             zone = plain.zone;
             found = plain.found;
-            first = plain.first;
             alone = plain.alone;
           })
           (same_id (plain_reply query set) bytes (limit_of query.edns) c d lc ld is)
 
       by : (whole : List ℕ) → AreOctets whole → 2 ≤ length whole → drop 2 whole ≡ t
-          → AnswersAll zones collections whole (take 2 whole ++ drop 2 bytes)
+          → AnswersAll zones collections healthy whole (take 2 whole ++ drop 2 bytes)
       by [] octets many same = absurd (omega (arith, many))
       by (c ∷ []) octets many same = absurd (omega (arith, many))
       by (c ∷ d ∷ s) octets many same =
-          subst (λ (behind : List ℕ). AnswersAll zones collections (c ∷ d ∷ behind) (c ∷ d ∷ drop 2 bytes)) (sym same)
+          subst (λ (behind : List ℕ). AnswersAll zones collections healthy (c ∷ d ∷ behind) (c ∷ d ∷ drop 2 bytes)) (sym same)
           (one c d octets.0 octets.1.0)

@@ -1,3 +1,4 @@
 mod Alone
 mod Ids
 mod Lasting
+pub mod Selected

@@ -1,10 +1,10 @@
 //! Replies that are the same whoever asks, but for the ID: those of a name by one set.
 //!
-//! Whoever keeps such a reply needn't make it again, as long as the zones stay.
+//! Whoever keeps such a reply needn't make it again, as long as the zones stay and no set becomes healthy or unhealthy.
 #![tactic(auto)]
 
 mod plain;
 mod settling;
 
-pub use query_engine::{Scratch, Zones};
+pub use query_engine::{HealthView, Scratch, Zones};
 pub use settling::settle;

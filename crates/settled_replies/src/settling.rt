@@ -1,35 +1,48 @@
 //! The reply to a packet, where it is settled.
 
-ghost use Rattle.std.specs.Prelude.{◌≡◌, ◌≤◌, None, Some, IfSome, drop, length};
+ghost use Rattle.std.specs.Prelude.{◌≡◌, ◌≤◌, ℕ, Bool, None, Some, IfSome, drop, length};
 ghost use Rattle.dns_message.specs.Whole.{IsWhole};
 ghost use Rattle.dns_wire.specs.Limit.{limit_of as most_of};
 ghost use Rattle.dns_wire.specs.Message.{octets_within};
 ghost use Rattle.query_engine.specs.Served.{hosted_of};
 ghost use Rattle.record_set.specs.declared.sets.RecordSet.{RecordSet};
+ghost use Rattle.record_set.specs.declared.sets.SetKey.{SetKey};
+ghost use Rattle.reply_records.specs.Groups.{Agrees};
 ghost use Rattle.settled_replies.specs.Plain.{IsPlain, plain_reply};
 ghost use Rattle.settled_replies.specs.Settled.{AnswersAll, IsSettled};
+ghost use Rattle.zone_lookup.specs.Served.{AreServed};
 
 use crate::plain::is_plain;
 use dns_message::{Query, Verdict, blank_query, read_over};
 use dns_wire::{Reply, limit_of};
-use query_engine::{Scratch, Zones};
+use geo_latency::Tables;
+use query_engine::{HealthView, Scratch, Zones};
 use reply_records::write_first;
 use zone_lookup::names_exist;
 
-/// Makes the reply to a packet where it is the same whoever asks, and says how many octets it has: where one set
-/// answers a name alone. None else, though of other packets the reply may be the same for all, too. It takes no memory.
-pub fn settle(
+/// Makes the reply to a packet where it is the same whoever asks, as long as no set becomes healthy or unhealthy, and
+/// says how many octets it has: where one set answers a name alone. None else, though of other packets the reply may be
+/// the same for all, too. It takes no memory.
+pub fn settle<V: HealthView>(
     zones: &Zones,
+    view: &V,
+    tables: &Tables,
     packet: &[u8],
     scratch: &mut Scratch,
     reply: &mut Reply,
 ) -> Option<usize>
+    requires served { AreServed zones.now.zones }
     requires room { 4096 ≤ reply.old.room }
-    ensures answers { IfSome result (λ n. AnswersAll (hosted_of zones.now.zones) zones.now.collections.list packet.now
-        reply.new.bytes) }
+
+    // It is by each test of sets with which the view agrees.
+    ensures answers { IfSome result (λ n. (healthy : (zone : ℕ) → SetKey → Bool)
+        → Agrees zones.now.zones (V.test view.now) healthy
+        → AnswersAll (hosted_of zones.now.zones) zones.now.collections.list healthy packet.now reply.new.bytes) }
 
     // With each ID.
-    ensures settled { IfSome result (λ n. IsSettled (hosted_of zones.now.zones) zones.now.collections.list
+    ensures settled { IfSome result (λ n. (healthy : (zone : ℕ) → SetKey → Bool)
+        → Agrees zones.now.zones (V.test view.now) healthy
+        → IsSettled (hosted_of zones.now.zones) zones.now.collections.list healthy
         (drop 2 packet.now) (drop 2 reply.new.bytes)) }
     ensures length { IfSome result (λ n. n ≡ length reply.new.bytes) }
 
@@ -48,26 +61,31 @@ pub fn settle(
             rcode: _,
         } => None,
         Verdict::BadVersion => None,
-        Verdict::Query => settle_query(zones, &query, scratch, reply),
+        Verdict::Query => settle_query(zones, view, tables, &query, scratch, reply),
     }
 }
 
 /// The reply to a query, where one set answers it alone.
-fn settle_query(
+fn settle_query<V: HealthView>(
     zones: &Zones,
+    view: &V,
+    tables: &Tables,
     query: &Query,
     scratch: &mut Scratch,
     reply: &mut Reply,
 ) -> Option<usize>
+    requires served { AreServed zones.now.zones }
     requires whole { IsWhole query.now }
     requires room { 4096 ≤ reply.old.room }
-    ensures plain { IfSome result (λ n. (set : RecordSet) × IsPlain (hosted_of zones.now.zones) query.now set
+    ensures plain { IfSome result (λ n. (set : RecordSet)
+        × ((healthy : (zone : ℕ) → SetKey → Bool) → Agrees zones.now.zones (V.test view.now) healthy
+        → IsPlain healthy (hosted_of zones.now.zones) query.now set)
         × (reply.new.bytes ≡ octets_within (plain_reply query.now set) (most_of query.now.edns))) }
     ensures length { IfSome result (λ n. n ≡ length reply.new.bytes) }
     ensures room { reply.new.room ≡ reply.old.room }
     ensures unsettled { result ≡ None → reply.new ≡ reply.old }
 {
-    if !is_plain(zones, query, scratch) {
+    if !is_plain(zones, view, tables, query, scratch) {
         return None;
     }
     reply.begin(query);

@@ -1,7 +1,12 @@
-use Rattle.std.proofs.Common.{◌∙◌, arith, refl, subst, sym}
+use Rattle.std.proofs.Common.{◌∙◌, arith, refl}
 use Rattle.serve_turns.proofs.Going.{joined, stays}
 use Rattle.serve_turns.proofs.Turns.{all_taken, at_close, at_fault, at_start, goes_on, none_within}
-use Rattle.serve_turns.proofs.Turns.{weaker}
+use Rattle.serve_turns.proofs.Turns.{leave_less, weaker}
+use Rattle.r53_core.specs.Stores.{StandsFor}
+use Rattle.serve_turns.specs.Settled.{Serves}
+use Rattle.serve_turns.specs.Turning.{first}
+use Rattle.serve_turns.specs.declared.serving.TurnsTaken.TheVariants as answer
+use Rattle.session_model.specs.Serving.{none}
 use Rattle.serve_turns.proofs.serving.serve.Goals as goal
 
 pub loop-turns-init : goal.loop-turns-init
@@ -11,12 +16,12 @@ loop-turns-init g c = record {
   room = refl;
   reports = stays c.args.store.now c.args.store.now refl;
   kept = refl;
-  settled = λ kept keeps. absurd (c.clear.ensures kept keeps);
   ports = refl;
   counts = omega arith;
   so_far = at_start c.args.tables.now c.args.store.now (g.R.Rng.stream c.args.words.now)
       (g.L.Link.coming c.args.link.now) (g.L.Link.sent c.args.link.now) c.no_turns-turns.result
-      c.no_turns-turns.ensures;
+      c.no_turns-turns.ensures (λ engine. Serves engine c.args.store.now c.clear.new.self)
+      (λ engine stands. record { stands = stands; settled = λ kept keeps. absurd (c.clear.ensures kept keeps) });
 }
 
 pub loop-turns-preserved : goal.loop-turns-preserved
@@ -28,13 +33,13 @@ loop-turns-preserved g c = record {
   reports = joined c.args.store.now c.loop-turns.store c.take_turn.new.store
       c.loop-turns.invariant.reports c.in-Taken.ensures.reports;
   kept = c.in-Taken.ensures.kept ∙ c.loop-turns.invariant.kept;
-  settled = c.in-Taken.ensures.settled;
   ports = c.in-Taken.ensures.ports ∙ c.loop-turns.invariant.ports;
   counts = omega (arith, c.in-Taken.ensures.counts, c.loop-turns.invariant.counts);
   so_far = goes_on c.args.tables.now c.args.store.now
       (g.R.Rng.stream c.args.words.now) (g.L.Link.coming c.args.link.now)
       (g.L.Link.sent c.args.link.now)
-      c.loop-turns.store c.take_turn.new.store
+      (λ engine. Serves engine c.loop-turns.store c.loop-turns.replies)
+      (λ engine. Serves engine c.take_turn.new.store c.take_turn.new.replies)
       (record {
         words = g.R.Rng.stream c.loop-turns.words;
         turns = c.loop-turns.turns;
@@ -51,10 +56,23 @@ loop-turns-preserved g c = record {
 }
 
 pub returns-in-Closed-clause-leaves : goal.returns-in-Closed-clause-leaves
-returns-in-Closed-clause-leaves g c = at_close c.args.tables.now c.args.store.now
+returns-in-Closed-clause-leaves g c = λ engine arrivals before stands comes was.
+    leave_less (answer.Took c.take_turn.new.turns) c.args.tables.now before c.args.n
+    (first engine (g.R.Rng.stream c.args.words.now)) arrivals
+    (λ after. Serves after c.take_turn.new.store c.take_turn.new.replies)
+    (λ after. StandsFor after c.take_turn.new.store)
+    (record {
+      words = g.R.Rng.stream c.take_turn.new.words;
+      turns = none;
+      coming = g.L.Link.coming c.take_turn.new.link;
+      sent = g.L.Link.sent c.take_turn.new.link;
+    })
+    (λ after its. its.stands)
+    (at_close c.args.tables.now c.args.store.now
     (g.R.Rng.stream c.args.words.now) (g.L.Link.coming c.args.link.now)
     (g.L.Link.sent c.args.link.now)
-    c.args.n c.loop-turns.store c.take_turn.new.store
+    c.args.n (λ engine. Serves engine c.loop-turns.store c.loop-turns.replies)
+    (λ engine. Serves engine c.take_turn.new.store c.take_turn.new.replies)
     (record {
       words = g.R.Rng.stream c.loop-turns.words;
       turns = c.loop-turns.turns;
@@ -68,13 +86,26 @@ returns-in-Closed-clause-leaves g c = at_close c.args.tables.now c.args.store.no
       sent = g.L.Link.sent c.take_turn.new.link;
     })
     c.loop-turns.invariant.so_far c.loop-turns.invariant.within.turns
-    c.in-Closed.ensures.counted c.in-Closed.ensures.leaves
+    c.in-Closed.ensures.counted c.in-Closed.ensures.leaves engine arrivals before stands comes was)
 
 pub returns-in-Failed-clause-leaves : goal.returns-in-Failed-clause-leaves
-returns-in-Failed-clause-leaves g c = at_fault c.args.tables.now c.args.store.now
+returns-in-Failed-clause-leaves g c = λ engine arrivals before stands comes was.
+    leave_less answer.Failed c.args.tables.now before c.args.n
+    (first engine (g.R.Rng.stream c.args.words.now)) arrivals
+    (λ after. Serves after c.take_turn.new.store c.take_turn.new.replies)
+    (λ after. StandsFor after c.take_turn.new.store)
+    (record {
+      words = g.R.Rng.stream c.take_turn.new.words;
+      turns = none;
+      coming = g.L.Link.coming c.take_turn.new.link;
+      sent = g.L.Link.sent c.take_turn.new.link;
+    })
+    (λ after its. its.stands)
+    (at_fault c.args.tables.now c.args.store.now
     (g.R.Rng.stream c.args.words.now) (g.L.Link.coming c.args.link.now)
     (g.L.Link.sent c.args.link.now)
-    c.args.n c.loop-turns.store c.take_turn.new.store
+    c.args.n (λ engine. Serves engine c.loop-turns.store c.loop-turns.replies)
+    (λ engine. Serves engine c.take_turn.new.store c.take_turn.new.replies)
     (record {
       words = g.R.Rng.stream c.loop-turns.words;
       turns = c.loop-turns.turns;
@@ -87,13 +118,26 @@ returns-in-Failed-clause-leaves g c = at_fault c.args.tables.now c.args.store.no
       coming = g.L.Link.coming c.take_turn.new.link;
       sent = g.L.Link.sent c.take_turn.new.link;
     })
-    c.loop-turns.invariant.so_far c.loop-turns-test.true c.in-Failed.ensures.leaves
+    c.loop-turns.invariant.so_far c.loop-turns-test.true c.in-Failed.ensures.leaves engine arrivals before stands comes was)
 
 pub returns-clause-leaves : goal.returns-clause-leaves
-returns-clause-leaves g c = all_taken c.args.tables.now c.args.store.now
+returns-clause-leaves g c = λ engine arrivals before stands comes was.
+    leave_less (answer.Took c.loop-turns.turns) c.args.tables.now before c.args.n
+    (first engine (g.R.Rng.stream c.args.words.now)) arrivals
+    (λ after. Serves after c.loop-turns.store c.loop-turns.replies)
+    (λ after. StandsFor after c.loop-turns.store)
+    (record {
+      words = g.R.Rng.stream c.loop-turns.words;
+      turns = none;
+      coming = g.L.Link.coming c.loop-turns.link;
+      sent = g.L.Link.sent c.loop-turns.link;
+    })
+    (λ after its. its.stands)
+    (all_taken c.args.tables.now c.args.store.now
     (g.R.Rng.stream c.args.words.now) (g.L.Link.coming c.args.link.now)
     (g.L.Link.sent c.args.link.now)
-    c.args.n c.loop-turns.store c.loop-turns.store
+    c.args.n (λ engine. Serves engine c.loop-turns.store c.loop-turns.replies)
+    (λ engine. Serves engine c.loop-turns.store c.loop-turns.replies)
     (record {
       words = g.R.Rng.stream c.loop-turns.words;
       turns = c.loop-turns.turns;
@@ -107,7 +151,7 @@ returns-clause-leaves g c = all_taken c.args.tables.now c.args.store.now
       sent = g.L.Link.sent c.loop-turns.link;
     })
     c.loop-turns.invariant.so_far
-    (omega (arith, c.loop-turns.invariant.within.turns, c.loop-turns-test.false))
+    (omega (arith, c.loop-turns.invariant.within.turns, c.loop-turns-test.false)) engine arrivals before stands comes was)
 
 pub returns-in-Closed-clause-reports : goal.returns-in-Closed-clause-reports
 returns-in-Closed-clause-reports g c = joined c.args.store.now c.loop-turns.store

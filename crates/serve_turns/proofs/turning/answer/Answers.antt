@@ -1,7 +1,7 @@
-use Rattle.std.proofs.Common.{◌++◌, List, Option, ℕ, refl, subst, sym, take}
-use Rattle.r53_core.specs.Stores.{StandsFor, State as Store}
+use Rattle.std.proofs.Common.{◌++◌, ◌∙◌, List, Option, ℕ, refl, subst, take}
 use Rattle.session_model.specs.Engine.{QueryGives}
 use Rattle.serve_turns.proofs.Packets.{answered, silent}
+use Rattle.serve_turns.specs.Settled.{Serves}
 use Rattle.serve_turns.proofs.turning.answer.Goals as goal
 
 pub returns-in-None-clause-leaves : goal.returns-in-None-clause-leaves
@@ -13,9 +13,9 @@ returns-in-None-clause-leaves g c = λ before old arrivals stands_for stands.
       coming = g.L.Link.coming c.args.link.now;
       sent = g.L.Link.sent c.args.link.now;
     })
-    stands (λ engine. StandsFor engine c.reply_to-told.new.store) c.draw-drawn.result
+    stands (λ engine. Serves engine c.reply_to-told.new.store c.reply_to-told.new.replies) c.draw-drawn.result
     c.draw-drawn.ensures.drawn
-    (subst (λ (s : Store). StandsFor old.engine s) (sym c.reply_to-told.ensures.same) stands_for)
+    (c.reply_to-told.ensures.serves old.engine stands_for)
     (record {
       words = g.R.Rng.stream c.draw-drawn.new.words;
       turns = c.count_packet.new.turns;
@@ -37,9 +37,9 @@ returns-in-Whole-clause-leaves g c = λ before old arrivals stands_for stands.
       coming = g.L.Link.coming c.args.link.now;
       sent = g.L.Link.sent c.args.link.now;
     })
-    stands (λ engine. StandsFor engine c.reply_to-told.new.store) c.draw-drawn.result
+    stands (λ engine. Serves engine c.reply_to-told.new.store c.reply_to-told.new.replies) c.draw-drawn.result
     c.draw-drawn.ensures.drawn
-    (subst (λ (s : Store). StandsFor old.engine s) (sym c.reply_to-told.ensures.same) stands_for)
+    (c.reply_to-told.ensures.serves old.engine stands_for)
     (record {
       words = g.R.Rng.stream c.draw-drawn.new.words;
       turns = c.count_packet-in-Whole.new.turns;
@@ -52,3 +52,10 @@ returns-in-Whole-clause-leaves g c = λ before old arrivals stands_for stands.
     c.in-Some.ensures.some (c.reply_to-told.ensures.gives old.engine stands_for))
     c.count_packet-in-Whole.ensures
     (c.in-Whole.ensures.leaves (before ++ old.sent) stands.sent)
+
+pub returns-in-Failed-clause-leaves : goal.returns-in-Failed-clause-leaves
+returns-in-Failed-clause-leaves g c = λ before old arrivals stands_for stands. (
+  c.reply_to-told.ensures.serves old.engine stands_for,
+  c.in-Failed.ensures.leaves (before ++ old.sent) stands.sent,
+  c.in-Failed.ensures.coming ∙ stands.coming,
+)

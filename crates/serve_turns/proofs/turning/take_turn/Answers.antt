@@ -1,11 +1,11 @@
 use Rattle.std.proofs.Common.{◌∙◌, ap, refl, sym, take}
 use Rattle.std.specs.Prelude.{if◌then◌else◌}
-use Rattle.r53_core.specs.Stores.{StandsFor}
 use Rattle.session_model.specs.TurnsRecord.{Turns}
 use Rattle.serve_turns.proofs.Going.{stays}
 use Rattle.serve_turns.proofs.Packets.{turned as packet_turned}
 use Rattle.serve_turns.proofs.Reports.{turned as report_turned}
 use Rattle.session_model.specs.Serving.{reported_too, unknown_too}
+use Rattle.serve_turns.specs.Settled.{Serves}
 use Rattle.serve_turns.proofs.turning.take_turn.Goals as goal
 
 pub returns-in-Dns-clause-leaves : goal.returns-in-Dns-clause-leaves
@@ -13,7 +13,7 @@ returns-in-Dns-clause-leaves g c = λ before old arrivals stands_for stands.
     let came = c.in-Dns.ensures.gives arrivals stands.coming in
     packet_turned c.answer.result c.args.tables.now before c.in-Dns.peer
     (take c.in-Dns.len c.receive.new.into) came.0 came.3.1 old arrivals came.1 came.2
-    (λ engine. StandsFor engine c.answer.new.store)
+    (λ engine. Serves engine c.answer.new.store c.answer.new.replies)
     (record {
       words = g.R.Rng.stream c.answer.new.words;
       turns = c.answer.new.turns;
@@ -32,7 +32,7 @@ returns-in-Report-clause-leaves g c = λ before old arrivals stands_for stands.
     let came = c.in-Report.ensures.gives arrivals stands.coming in
     report_turned c.args.tables.now before old arrivals came.1 came.0 c.front.result.now
     (c.front.ensures ∙ came.3.1) came.2
-    (λ engine. StandsFor engine c.observe-taken.new.store)
+    (λ engine. Serves engine c.observe-taken.new.store c.observe-taken.new.replies)
     (record {
       words = g.R.Rng.stream c.args.words.now;
       turns = c.count_report.new.turns;

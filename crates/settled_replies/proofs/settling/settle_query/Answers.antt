@@ -8,13 +8,13 @@ use Rattle.settled_replies.specs.Plain.{plain_reply}
 use Rattle.settled_replies.proofs.settling.settle_query.Goals as goal
 
 pub finish-requires-clause-begun : goal.finish-requires-clause-begun
-finish-requires-clause-begun c =
+finish-requires-clause-begun g c =
     let held = c.if-not-is_plain.ensures.plain refl in
     let writes = c.write_first.ensures held.0 held.1 in
     (_, writes.stands (reply_to c.args.query.now) c.begin.ensures.stands (refl, refl))
 
 pub returns-clause-plain : goal.returns-clause-plain
-returns-clause-plain c =
+returns-clause-plain g c =
     let query = c.args.query.now in
     let held = c.if-not-is_plain.ensures.plain refl in
     let writes = c.write_first.ensures held.0 held.1 in
