@@ -1,5 +1,5 @@
 -- Valves over valves: when each is open, and what feeds it.
-use Rattle.std.specs.Prelude.{◌≡◌, ◌≤◌, ◌<◌, ◌+◌, ◌^◌, ◌==◌, ℕ, Bool, true, false, List, [], ◌∷◌, Some, length, slice_get, slice_index, slice_index_or, nat_le, if◌then◌else◌, Contains}
+use Rattle.std.specs.Prelude.{◌≡◌, ◌≢◌, ◌≤◌, ◌<◌, ◌+◌, ◌^◌, ◌==◌, ℕ, Bool, true, false, List, [], ◌∷◌, Some, length, slice_get, slice_index, slice_index_or, nat_le, if◌then◌else◌, Contains}
 use Rattle.std.specs.Vec.{vec_capacity}
 use Rattle.calculated_health.specs.Status.{swapped_if}
 use Rattle.health_valves.specs.Walk.{PathsEnd}
@@ -120,3 +120,17 @@ with_condition valve condition net = record {
 -- Nothing feeds a valve, and nothing has to be open for it.
 abbrev pub unfed_condition : Condition
 unfed_condition = record { need = 0; inverted = false; feeders = [] }
+
+-- Each valve from a number on that feeds one feeds another too.
+abbrev pub IsShared : Net → (valve first : ℕ) → Type 0
+IsShared net valve first = (x : ℕ) → first ≤ x → Feeds net x valve
+    → (y : ℕ) × ((y ≢ valve) × ((y < net.size) × Feeds net x y))
+
+-- another number than this one is listed
+abbrev pub HasOther : (valve : ℕ) → List ℕ → Type 0
+HasOther valve listed = (y : ℕ) × ((y ≢ valve) × Contains listed y)
+
+-- each of some valves, from a number on, feeds another one than this
+abbrev pub FeedOthers : BothWays → (valve first : ℕ) → List ℕ → Type 0
+FeedOthers feeds valve first feeders =
+    (x : ℕ) → first ≤ x → Contains feeders x → HasOther valve (fed_by feeds x)

@@ -10,6 +10,7 @@ mod cone;
 mod laws;
 mod laying;
 mod room;
+mod sharing;
 mod steps;
 mod unfeeding;
 mod valves;

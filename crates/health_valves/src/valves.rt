@@ -8,7 +8,7 @@ ghost use Rattle.std.specs.List.Sorted.{IsPermutation};
 ghost use Rattle.health_valves.specs.Laying.{HasRoomFor};
 ghost use Rattle.health_valves.specs.Blueprint.{IsDrawn, Drawn, net_in, no_blueprint, own_in};
 ghost use Rattle.health_valves.specs.Valves.{Feeds, HasEnds, ValvesStandFor, IsReady, MeetsEquation, Net, count};
-ghost use Rattle.health_valves.specs.Valves.{equation};
+ghost use Rattle.health_valves.specs.Valves.{IsShared, equation};
 ghost use Rattle.health_valves.specs.Valves.{size_of, unfed_condition, value_in, value_of};
 ghost use Rattle.health_valves.specs.Valves.{with_condition, with_need, with_own};
 ghost use Rattle.health_valves.specs.Pass.{CostsCone, HasCone, HasMarked, IsIdle, IsInOrder, MeetAll};
@@ -18,6 +18,7 @@ use crate::blueprint::Blueprint;
 use crate::cone::{list_all, list_cone};
 use crate::laying::{lay_counts, lay_links, lay_none, lay_rows, lay_valves};
 use crate::room::{make_feeds, make_room};
+use crate::sharing::feed_others;
 use crate::steps::Steps;
 use crate::unfeeding::take_feeders;
 use crate::writes::{is_open, work_out};
@@ -321,6 +322,18 @@ impl Valves {
             return false;
         }
         is_fed(self.feeds.fed(feeder as u32), valve)
+    }
+
+    /// Whether each valve from a number on that feeds a valve feeds another one too.
+    pub fn is_shared(&self, valve: u32, first: usize) -> bool
+        requires ready { IsReady self.now }
+        requires valve { valve < size_of self.now }
+        ensures { (net : Net) (own : ℕ → ℕ) → ValvesStandFor net own self.now
+            → IsTrue result ↔ IsShared net valve first }
+    {
+        // A valve is fed by others as often as they feed it.
+        self.feeds.len();
+        feed_others(&self.feeds, self.feeds.feeders(valve), valve, first)
     }
 
     /// How many valves there are.
