@@ -1,10 +1,10 @@
 -- Valves of sets and groups, which stand behind those of checks, where their conditions stay.
 use Rattle.std.proofs.Common.{◌≡◌, ◌≤◌, ◌<◌, ℕ, suc, List, ◌∷◌, ◌++◌, map, arith, refl, ap, sym, ◌∙◌, inl, inr, Some, None, Option}
-use Rattle.std.specs.Prelude.{slice_get}
+use Rattle.std.specs.Prelude.{◌⊎◌, slice_get}
 use Rattle.std.specs.Option.{option_to_list}
 use Rattle.check_model.specs.declared.checks.Check.{Check}
 use Rattle.health_model.specs.Nodes.{CheckNode, GroupNode, Node, SetNode}
-use Rattle.health_planning.specs.Wired.{IsGroupValve, IsSeated, IsTarget, IsValveFor, ids_of, set_condition, valve_with}
+use Rattle.health_planning.specs.Wired.{IsGroupValve, IsSeated, IsTarget, IsValveFor, ids_of, set_condition, valve_with, IsVacant}
 use Rattle.health_planning.specs.Zones.{Zone, placed_in}
 use Rattle.health_planning.specs.declared.seats.Seat.{Seat}
 use Rattle.health_valves.specs.Valves.{Net}
@@ -83,15 +83,16 @@ module _ (zones : List Zone) (list list_now : List (ℕ × Check)) (numbers numb
         ];
       }
 
-  -- each valve behind those of checks is that of a node still
+  -- each valve behind those of checks is vacant or that of a node still
   pub node_now : ((place valve : ℕ) → slice_get numbers place ≡ Some valve → valve < 200)
-      → ((valve : ℕ) → 200 ≤ valve → valve < net.size
-      → (node : Node) × IsValveFor zones list numbers seats net own valve node)
-      → (valve : ℕ) → 200 ≤ valve → valve < now.size
-      → (node : Node) × IsValveFor zones list_now numbers_now seats now own_now valve node
-  node_now early nodes valve behind within =
-      let n = nodes valve behind (omega arith) in
-      by n.0 n.1
+      → ((valve : ℕ) → 200 ≤ valve → valve < net.size → IsVacant net valve
+      ⊎ ((node : Node) × IsValveFor zones list numbers seats net own valve node))
+      → (valve : ℕ) → 200 ≤ valve → valve < now.size → IsVacant now valve
+      ⊎ ((node : Node) × IsValveFor zones list_now numbers_now seats now own_now valve node)
+  node_now early nodes valve behind within = elim (nodes valve behind (omega arith)) [
+    | inl vacant ↦ inl (vacant.0, condition valve behind ∙ vacant.1)
+    | inr n ↦ inr (by n.0 n.1)
+  ]
     where
       by : (node : Node) → IsValveFor zones list numbers seats net own valve node
           → (node : Node) × IsValveFor zones list_now numbers_now seats now own_now valve node

@@ -1,5 +1,5 @@
 -- What working out one node leaves.
-use Rattle.std.proofs.Common.{◌≡◌, ◌≢◌, ◌∙◌, ℕ, Bool, true, false, arith, refl, ap, sym, inl, inr}
+use Rattle.std.proofs.Common.{◌≡◌, ◌≢◌, ◌<◌, ◌∙◌, ℕ, Bool, true, false, arith, refl, ap, sym, inl, inr}
 use Rattle.std.proofs.lemmas.Bool.{false≢true}
 use Rattle.std.specs.Prelude.{◌↔◌, Contains, IsTrue, List}
 use mathlib.Core.Path.{subst}
@@ -12,7 +12,7 @@ use Rattle.health_model.specs.Statuses.{Report}
 use Rattle.health_planning.specs.Groups.{ViewsAgree}
 use Rattle.health_planning.specs.Zones.{Zone}
 use Rattle.zone_model.specs.Slotted.{Slotted}
-use Rattle.health_planning.specs.Wired.{IsSpare, ids_of, watched_of}
+use Rattle.health_planning.specs.Wired.{IsSpare, ids_of, watched_of, IsVacant}
 use Rattle.health_planning.proofs.Ending.{feeder, condition_seated}
 use Rattle.health_index.specs.Index.{Index, IsLaidFor, IsNumberBehind, IsNumberOf, IsOwnNumber, healthy_in}
 use Rattle.health_index.specs.Values.{MeetsIn, WorksOut}
@@ -28,7 +28,8 @@ still_idle before after turns idle =
 module _ (views : ViewsAgree) (zones : List Zone) (checks : Checks) (reports : List Report)
     (index : Index) (laid : IsLaidFor zones checks reports index) (valves : Valves)
     (fits : ValvesStandFor laid.net laid.own valves) (idle : IsIdle valves)
-    (spare : (valve : ℕ) → IsSpare index.numbers valve → value_of valves valve ≡ true) where
+    (spare : (valve : ℕ) → IsSpare index.numbers valve → value_of valves valve ≡ true)
+    (vacant : (valve : ℕ) → valve < laid.net.size → IsVacant laid.net valve → value_of valves valve ≡ true) where
   abbrev after : Index
   after = record index { valves = valves }
 
@@ -52,6 +53,7 @@ module _ (views : ViewsAgree) (zones : List Zone) (checks : Checks) (reports : L
     fits = fits;
     ends = laid.ends;
     spare = spare;
+    vacant = vacant;
     idle = idle;
   }
 

@@ -1,5 +1,6 @@
 -- Numbers of nodes.
-use Rattle.std.proofs.Common.{◌≡◌, ◌<◌, ◌≤◌, ◌+◌, ◌-◌, ℕ, suc, Bool, true, false, List, arith, refl, ap, sym, ◌∙◌, inl, inr, Option, None, Some}
+use Rattle.std.proofs.Common.{◌≡◌, ◌<◌, ◌≤◌, ◌+◌, ◌-◌, ◌++◌, ℕ, suc, Bool, true, false, List, length, map, arith, refl, ap, sym, ◌∙◌, inl, inr, Option, None, Some}
+use Rattle.std.specs.Option.{option_to_list}
 use Rattle.std.specs.Prelude.{◌||◌, ◌⊎◌, is_some, slice_get}
 use Rattle.std.proofs.lemmas.Bool.{false≢true}
 use mathlib.Core.Path.{subst}
@@ -9,7 +10,7 @@ use Rattle.health_model.specs.Nodes.{CheckNode, GroupNode, Node, SetNode}
 use Rattle.health_model.specs.Statuses.{Report}
 use Rattle.health_planning.proofs.ListedOnce.{one_ref}
 use Rattle.health_planning.proofs.Members.{one_named}
-use Rattle.health_planning.proofs.MembersOfZoneList.{one_of_key}
+use Rattle.health_planning.proofs.MembersOfZoneList.{one_of_key, filled}
 use Rattle.health_planning.specs.Looking.{RefersTo}
 use Rattle.health_planning.specs.SetRefRecord.{SetRef}
 use Rattle.health_planning.specs.Telling.{evaluates}
@@ -19,14 +20,14 @@ use Rattle.record_set.specs.declared.sets.Body.{Body}
 use Rattle.record_set.specs.declared.sets.Body.TheVariants as body
 use Rattle.record_set.specs.declared.sets.RecordSet.{RecordSet}
 use Rattle.zone_model.specs.Slotted.{IsHere, Slotted}
-use Rattle.health_index.specs.Index.{HasNode, HasNumber, Index, IsLaidFor, IsNumberBehind, IsNumberOf, IsOwnNumber, TellsOfCheck}
+use Rattle.health_index.specs.Index.{HasNode, HasNumber, Index, IsLaidFor, IsNumberBehind, IsNumberOf, IsOwnNumber, TellsOfCheck, IsOfOneGroup, Needs}
 use Rattle.health_index.proofs.Alone.{early_in, seat_alone}
 use Rattle.health_index.specs.Laws.{NodesAreNumbered}
-use Rattle.health_valves.specs.Valves.{size_of}
-use Rattle.health_planning.specs.Wired.{IsAlone, IsValveFor, IsLedTo, IsSpare, IsTarget, group_seat, ids_of, is_watched, own_part, place_of, seat_of, set_seat, valve_with}
+use Rattle.health_valves.specs.Valves.{size_of, Condition, Net, ValvesStandFor}
+use Rattle.health_planning.specs.Wired.{IsAlone, IsValveFor, IsLedTo, IsSpare, IsTarget, group_seat, ids_of, is_watched, own_part, place_of, seat_of, set_seat, valve_with, AreMembers, IsVacant}
 use Rattle.health_planning.proofs.Numbers.{ids_valves, valve_there}
 use Rattle.health_planning.proofs.Places.{found, held_there, id_there, one_place}
-use Rattle.health_planning.proofs.Wiring.{first_here, first_same, rising_in, same_names}
+use Rattle.health_planning.proofs.Wiring.{first_here, first_same, rising_in, same_names, member_there}
 
 some_same : {X : Type 0} {x y : X} → Some x ≡ Some y → x ≡ y
 some_same e = cc
@@ -205,6 +206,78 @@ module _ (zones : List Zone) (checks : Checks) (reports : List Report) (index : 
   early_or_late number (SetNode zone set) is = inr (set_late number zone set is)
   early_or_late number (GroupNode zone name rtype) is = inr (group_late number zone name rtype is)
 
+  -- ---- something has to be open for the valve of a node behind those of checks
+
+  some_target : (zone : ℕ) (rtype : RType) (its : Body) (target : List ℕ) → evaluates its ≡ true
+      → IsTarget zones index.seats laid.net laid.own zone rtype its target → 1 ≤ length target
+  some_target zone rtype (body.Values ttl values) target on is = absurd (false≢true on)
+  some_target zone rtype (body.Alias name evaluate) target on (inl off) = absurd (false≢true (sym off.0 ∙ on))
+  some_target zone rtype (body.Alias name evaluate) target on (inr (evaluated, (valve, is, rest))) =
+      let one = ap length is in omega (arith, one)
+
+  some_fed : (f : ℕ → ℕ) (check : Option ℕ) (zone : ℕ) (rtype : RType) (its : Body) (target : List ℕ)
+      → is_some check || evaluates its ≡ true
+      → IsTarget zones index.seats laid.net laid.own zone rtype its target
+      → 1 ≤ length (map f (option_to_list check) ++ target)
+  some_fed f (Some id) zone rtype its target on is = omega arith
+  some_fed f None zone rtype its target on is = some_target zone rtype its target on is
+
+  set_needs : (number zone : ℕ) (set : RecordSet) → IsOwnNumber zones index number (SetNode zone set)
+      → 1 ≤ (laid.net.condition number).need
+  set_needs number zone set (slot, (here, seat)) =
+      let on = decided number zone set (slot, (here, seat)) in
+      elim ((laid.wired.its_sets zone (record { slot = slot; set = set }) here).valved on) [
+        | inl alone ↦
+            let none = (seat_bare zone (record { slot = slot; set = set }) here alone.0 alone.1.0 alone.1.1).0 in
+            absurd (omega arith)
+        | inr g ↦
+            let its = g.1 in
+            let is : g.0 ≡ number = omega (arith, its, seat) in
+            let some = some_fed (valve_with (ids_of checks.list) index.numbers) set.check zone set.rtype set.body g.2.target on g.2.its_target in
+            let need = ap (λ (c : Condition). c.need) g.2.condition in
+            subst (λ (n : ℕ). 1 ≤ (laid.net.condition n).need) is (omega (arith, need, some))
+      ]
+
+  group_needs : (number zone : ℕ) (name : List (List ℕ)) (rtype : RType)
+      → IsOwnNumber zones index number (GroupNode zone name rtype) → 1 ≤ (laid.net.condition number).need
+  group_needs number zone name rtype (members, (are, seat)) =
+      let y = laid.told.groups seat.0 number seat.1.1 in
+      let p = y.led.0 in
+      let is = y.led.1.1 in
+      let on : is_watched p.set ≡ true = ap (λ (b : Body). is_some p.set.check || evaluates b) is.0 ∙ or_true p.set.check in
+      elim ((laid.wired.its_sets y.zone p y.led.1.0).valved on) [
+        | inl alone ↦ absurd (false≢true (sym alone.1.0.0 ∙ ap evaluates is.0))
+        | inr g ↦
+            by y p.set.rtype is.1 g.2.target (subst (λ (b : Body). IsTarget zones index.seats laid.net laid.own y.zone p.set.rtype b g.2.target)
+            is.0 g.2.its_target)
+      ]
+    where
+      by : (y : IsOfOneGroup zones index.seats number) (t : RType) → t ≡ y.rtype → (target : List ℕ)
+          → IsTarget zones index.seats laid.net laid.own y.zone t (body.Alias y.name true) target
+          → 1 ≤ (laid.net.condition number).need
+      by y t same target (inl off) = absurd (false≢true (sym off.0))
+      by y t same target (inr (evaluated, (valve, is, (ms, its, w)))) =
+          let f = first_here ms w.seat.0 w.seat.1.0 in
+          let among = member_there zones laid.are_zones y.zone y.name y.rtype ms y.members f.0
+          (subst (λ (r : RType). AreMembers zones y.zone y.name r ms) same its) f.1 y.are in
+          let mine = y.each f.0 among in
+          let told = w.each f.0 f.1 in
+          let one : valve ≡ number = omega (arith, mine, told) in
+          let need = ap (λ (c : Condition). c.need) w.condition in
+          subst (λ (n : ℕ). 1 ≤ (laid.net.condition n).need) one (omega (arith, need))
+
+  needs : (number : ℕ) (node : Node) → IsOwnNumber zones index number node → 200 ≤ number
+      → 1 ≤ (laid.net.condition number).need
+  needs number (CheckNode id) is late = let early = check_early number id is in absurd (omega arith)
+  needs number (SetNode zone set) is late = set_needs number zone set is
+  needs number (GroupNode zone name rtype) is late = group_needs number zone name rtype is
+
+  pub not_vacant : (number : ℕ) (node : Node) → IsOwnNumber zones index number node → IsVacant laid.net number → ⊥
+  not_vacant number node is vacant =
+      let some = needs number node is vacant.0 in
+      let none = ap (λ (c : Condition). c.need) vacant.1 in
+      omega (arith, some, none)
+
   not_spare : (number : ℕ)
       → ((place : ℕ) × (slice_get index.numbers place ≡ Some number)) ⊎ (200 ≤ number)
       → IsSpare index.numbers number → ⊥
@@ -217,7 +290,8 @@ module _ (zones : List Zone) (checks : Checks) (reports : List Report) (index : 
   valve_for number node is =
       elim (laid.wired.its_nodes number (there number node is)) [
         | inl spare ↦ absurd (not_spare number (early_or_late number node is) spare)
-        | inr n ↦
+        | inr (inl vacant) ↦ absurd (not_vacant number node is vacant)
+        | inr (inr n) ↦
             subst (IsValveFor zones checks.list index.numbers index.seats laid.net laid.own number)
             (one_node number n.0 node (of_valve number n.0 n.1) is) n.1
       ]
@@ -359,20 +433,33 @@ module _ (zones : List Zone) (checks : Checks) (reports : List Report) (index : 
   -- which numbers there are
   by_valve : (number : ℕ) → number < laid.net.size
       → ((place : ℕ) × (slice_get index.numbers place ≡ Some number)) ⊎ (200 ≤ number)
-      → (node : Node) × IsNumberOf zones index number node
-  by_valve number within place = elim (laid.wired.its_nodes number within) [
+      → (IsVacant laid.net number → ⊥) → (node : Node) × IsNumberOf zones index number node
+  by_valve number within place taken = elim (laid.wired.its_nodes number within) [
     | inl spare ↦ absurd (not_spare number place spare)
-    | inr n ↦ (n.0, inl (of_valve number n.0 n.1))
+    | inr (inl vacant) ↦ absurd (taken vacant)
+    | inr (inr n) ↦ (n.0, inl (of_valve number n.0 n.1))
   ]
+
+  -- all nets for which the valves stand have one need
+  one_need : (net : Net) (own : ℕ → ℕ) → ValvesStandFor net own index.valves → (number : ℕ)
+      → number < size_of index.valves → (net.condition number).need ≡ (laid.net.condition number).need
+  one_need net own fits number within =
+      let row = filled index.valves.rows.items number within in
+      sym (fits.laid.each_row number row.0 row.1).need ∙ (laid.fits.laid.each_row number row.0 row.1).need
+
+  vacant_needs : (number : ℕ) → number < size_of index.valves → IsVacant laid.net number
+      → Needs index.valves number 0
+  vacant_needs number within vacant net own fits =
+      one_need net own fits number within ∙ ap (λ (c : Condition). c.need) vacant.1
 
   pub of_each : (number : ℕ) → HasNode index number → (node : Node) × IsNumberOf zones index number node
   of_each number (inl (place, numbered)) =
       let early = laid.numbers.early place number numbered in
       let most = laid.wired.many in
-      by_valve number (omega arith) (inl (place, numbered))
-  of_each number (inr (inl (late, within))) =
+      by_valve number (omega arith) (inl (place, numbered)) (λ vacant. let late = vacant.0 in omega (arith, early, late))
+  of_each number (inr (inl (late, (within, some)))) =
       let size = size_same in
-      by_valve number (omega arith) (inr late)
+      by_valve number (omega arith) (inr late) (λ vacant. some (vacant_needs number within vacant))
   of_each number (inr (inr (late, tells))) =
       let taken = laid.told.here (number - size_of index.valves) tells.1 in
       let ref = taken.0 in
@@ -395,7 +482,16 @@ module _ (zones : List Zone) (checks : Checks) (reports : List Report) (index : 
       let within = there number node own in
       elim (early_or_late number node own) [
         | inl early ↦ inl early
-        | inr late ↦ inr (inl (late, omega arith))
+        | inr late ↦ inr (inl (
+          late,
+          (
+            omega arith,
+            λ none.
+                let some = needs number node own late in
+                let zero = none laid.net laid.own laid.fits in
+                omega (arith, some, zero),
+          ),
+        ))
       ]
   of_only number node (inr behind) = inr (inr (past number node behind, behind_there number node behind))
 

@@ -251,7 +251,9 @@ module _ (fifty : FiftyAlone) (more : OneMoreReport) (zones : List Zone) (checks
       its_nodes = λ other within.
           elim (stands.wired.its_nodes other within) [
             | inl spare ↦ inl spare
-            | inr n ↦ inr (n.0, node_still zones checks.list index stands.net stands.own valve given early other n.0 n.1)
+            | inr (inl vacant) ↦ inr (inl vacant)
+            | inr (inr n) ↦
+                inr (inr (n.0, node_still zones checks.list index stands.net stands.own valve given early other n.0 n.1))
           ];
       spares = stands.wired.spares;
       many = stands.wired.many;

@@ -21,7 +21,7 @@ use Rattle.health_model.specs.Statuses.{Report, results_of}
 use Rattle.health_planning.specs.Zones.{Zone}
 use Rattle.health_planning.specs.Building.{IsSeen}
 use Rattle.health_planning.specs.Later.{HasThreshold, IsLaterAt}
-use Rattle.health_planning.specs.Wired.{IsCheckValve, IsSpare, IsValveFor, StandApart, check_need, check_own, ids_of, is_inverted, valve_with, watched_of}
+use Rattle.health_planning.specs.Wired.{IsCheckValve, IsSpare, IsValveFor, StandApart, check_need, check_own, ids_of, is_inverted, valve_with, watched_of, IsVacant}
 use Rattle.health_planning.proofs.Built.{id_placed}
 use Rattle.health_planning.proofs.MembersOfZoneList.{filled}
 use Rattle.health_planning.proofs.Numbers.{number_or_none}
@@ -237,15 +237,15 @@ module _ (zones : List Zone) (new : Checks) (reports : List Report) (index : Ind
         its_own = f.owns place valve id check at numbered;
       }
 
-  nodes_now : (valve : ℕ) → valve < r.now.size → IsSpare index.numbers valve
-      ⊎ ((node : Node) × IsValveFor zones new.list index.numbers index.seats r.now f.own valve node)
+  nodes_now : (valve : ℕ) → valve < r.now.size → IsSpare index.numbers valve ⊎ (IsVacant r.now valve
+      ⊎ ((node : Node) × IsValveFor zones new.list index.numbers index.seats r.now f.own valve node))
   nodes_now valve within = elim (cases_lt valve 200) [
     | inl early ↦ elim (number_or_none index.numbers valve) [
       | inl at ↦
           let many = f.numbers.as_many in
           let among = slice_get_within index.numbers at.0 valve at.1 in
           let held = filled new.list at.0 (omega arith) in
-          inr (CheckNode held.0.0, (at.0, (held.0.1, (held.1, at.1))))
+          inr (inr (CheckNode held.0.0, (at.0, (held.0.1, (held.1, at.1)))))
       | inr none ↦ inl (early, none)
     ]
     | inr behind ↦

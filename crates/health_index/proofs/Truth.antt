@@ -468,7 +468,10 @@ module _ (zones : List Zone) (checks : Checks) (reports : List Report) (index : 
         | inl spare ↦
             laid.spare valve spare
             ∙ sym (spare_open laid.net laid.own (value_of index.valves) valve (laid.wired.spares valve spare))
-        | inr n ↦ of_meet valve n.0 n.1 (all n.0 (node_there valve n.0 n.1))
+        | inr (inl vacant) ↦
+            laid.vacant valve within vacant
+            ∙ sym (spare_open laid.net laid.own (value_of index.valves) valve vacant.1)
+        | inr (inr n) ↦ of_meet valve n.0 n.1 (all n.0 (node_there valve n.0 n.1))
       ]
 
   -- the value of a number
@@ -550,6 +553,8 @@ laid_of zones checks reports index stands = record {
       let early = is.0 in
       stands.meet valve (omega arith)
       ∙ spare_open stands.net stands.own (value_of index.valves) valve (stands.wired.spares valve is);
+  vacant = λ valve within is.
+      stands.meet valve within ∙ spare_open stands.net stands.own (value_of index.valves) valve is.1;
   idle = stands.idle;
 }
 

@@ -28,7 +28,7 @@ use Rattle.health_planning.proofs.Seeing.{seen_it}
 use Rattle.health_planning.proofs.Wiring.{ids_long}
 use Rattle.health_planning.specs.Building.{IsSeen}
 use Rattle.health_planning.specs.Later.{AreLater}
-use Rattle.health_planning.specs.Wired.{IsSpare, IsValveFor, StandApart, StandsAt, check_own, ids_of, place_of, valve_with}
+use Rattle.health_planning.specs.Wired.{IsSpare, IsValveFor, StandApart, StandsAt, check_own, ids_of, place_of, valve_with, IsVacant}
 use Rattle.health_planning.specs.Zones.{Zone, placed_in}
 use Rattle.health_planning.proofs.Lists.{in_more}
 use Rattle.health_valves.specs.Pass.{IsIdle, MeetAll}
@@ -83,11 +83,11 @@ module _ (zones : List Zone) (old new : Checks) (reports : List Report) (index :
       subst (AllByRecursion (IsId old.list)) (children_kept was.0 check was.2) there.there
 
   -- valves behind those of checks
-  pub nodes : (valve : ℕ) → 200 ≤ valve → valve < stands.net.size
-      → (node : Node) × IsValveFor zones old.list index.numbers index.seats stands.net stands.own valve node
+  pub nodes : (valve : ℕ) → 200 ≤ valve → valve < stands.net.size → IsVacant stands.net valve
+      ⊎ ((node : Node) × IsValveFor zones old.list index.numbers index.seats stands.net stands.own valve node)
   nodes valve behind within = elim (stands.wired.its_nodes valve within) [
     | inl spare ↦ (let early = spare.0 in absurd (omega arith))
-    | inr n ↦ n
+    | inr rest ↦ rest
   ]
 
   -- the checks have the numbers that there are

@@ -1,6 +1,6 @@
 -- Commands by which no calculated check comes, goes or gets other children: how the checks follow of those
 -- before, and what changes of the valves.
-use Rattle.std.specs.Prelude.{◌≡◌, ◌≤◌, ◌<◌, ◌+◌, ◌++◌, ℕ, List, [], ◌∷◌, Option, None, Some, length, map, slice_get, ⊤}
+use Rattle.std.specs.Prelude.{◌≡◌, ◌≤◌, ◌<◌, ◌+◌, ◌++◌, ◌⊎◌, ℕ, List, [], ◌∷◌, Option, None, Some, length, map, slice_get, ⊤}
 use Rattle.std.specs.List.{remove}
 use Rattle.check_model.specs.Checks.{Checks, children_of}
 use Rattle.check_model.specs.declared.checks.Check.{Check}
@@ -15,7 +15,7 @@ use Rattle.health_model.specs.Nodes.{Node}
 use Rattle.health_model.specs.Statuses.{AreReports, Report, passing}
 use Rattle.health_planning.specs.Building.{AreSeen}
 use Rattle.health_planning.specs.Tables.{HaveSlotsApart}
-use Rattle.health_planning.specs.Wired.{HaveValves, IsSeated, IsSpare, IsValveFor, check_need, check_own, group_seat, ids_of, is_inverted, seat_of, set_seat, spare_condition, valve_with}
+use Rattle.health_planning.specs.Wired.{HaveValves, IsSeated, IsSpare, IsValveFor, check_need, check_own, group_seat, ids_of, is_inverted, seat_of, set_seat, spare_condition, valve_with, IsVacant}
 use Rattle.health_planning.specs.Zones.{AreZones, Zone, placed_in}
 use Rattle.zone_model.specs.Slotted.{IsHere, Slotted}
 use Rattle.health_valves.specs.Pass.{IsIdle, MeetAll}
@@ -149,8 +149,8 @@ pub record IsFollowed (zones : List Zone) (checks : Checks) (reports : List Repo
   pub own : ℕ → ℕ
   pub sets : (zone : ℕ) (p : Slotted) → IsHere (placed_in zones zone) p
       → IsSeated zones (ids_of checks.list) index.numbers index.seats net own zone p
-  pub nodes : (valve : ℕ) → 200 ≤ valve → valve < net.size
-      → (node : Node) × IsValveFor zones checks.list index.numbers index.seats net own valve node
+  pub nodes : (valve : ℕ) → 200 ≤ valve → valve < net.size → IsVacant net valve
+      ⊎ ((node : Node) × IsValveFor zones checks.list index.numbers index.seats net own valve node)
   pub groups : (slot valve : ℕ) → group_seat index.seats slot ≡ valve + 1 → valve < net.size
   pub members : (slot valve : ℕ) → group_seat index.seats slot ≡ valve + 1
       → set_seat index.seats slot ≡ seat_of index.seats slot

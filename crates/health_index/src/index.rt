@@ -5,9 +5,10 @@ ghost use Rattle.std.specs.Prelude.{Contains, IfOk, IsOk, OnOk, if◌then◌else
 ghost use Rattle.check_model.specs.Checks.{Checks};
 ghost use Rattle.check_model.specs.Checks.{IsSound as AreSoundChecks};
 ghost use Rattle.health_planning.specs.Later.{AreLater};
-ghost use Rattle.health_valves.specs.Valves.{Feeds, HasEnds, ValvesStandFor, MeetsEquation, Net, size_of, value_of};
+ghost use Rattle.health_valves.specs.Valves.{Feeds, HasEnds, IsReady, ValvesStandFor, MeetsEquation, Net};
+ghost use Rattle.health_valves.specs.Valves.{size_of, value_of};
 ghost use Rattle.health_valves.specs.Pass.{IsIdle};
-ghost use Rattle.health_index.specs.Index.{HasNode, IsEndpointOf, IsLaidFor, IsNumberOf, StandsFor};
+ghost use Rattle.health_index.specs.Index.{HasNode, IsEndpointOf, IsLaidFor, IsNumberOf, Needs, StandsFor};
 ghost use Rattle.health_index.specs.Index.{healthy_in};
 ghost use Rattle.health_index.specs.Index.{reported};
 ghost use Rattle.health_index.specs.Following.{AreFewer, AreMore, AreSame, Follows};
@@ -665,7 +666,8 @@ impl HealthIndex {
     }
 
     /// Whether there is a node of the number. The checks have numbers, the sets that something
-    /// decides and the target groups of evaluated aliases, and no others.
+    /// decides and the target groups of evaluated aliases, and no others: that of a valve which no
+    /// set and no group has any more is none.
     pub fn has_node(&self, node: u32) -> bool
         ensures { IsTrue result ↔ HasNode self.now node }
     {
@@ -675,7 +677,7 @@ impl HealthIndex {
             return tells_of_check(&self.seats, number - many);
         }
         if number >= MOST_CHECKS {
-            return true;
+            return is_taken(&self.valves, number);
         }
         has_number(&self.numbers, node)
     }
@@ -758,4 +760,13 @@ fn short(count: u32) -> u16
     } else {
         u16::MAX
     }
+}
+
+/// Whether something has to be open for a valve, as it has for that of each set and group.
+fn is_taken(valves: &Valves, valve: usize) -> bool
+    requires ready { IsReady valves.now }
+    requires valve { valve < size_of valves.now }
+    ensures { IsTrue result ↔ (Needs valves.now valve 0 → ⊥) }
+{
+    valves.need(valve) != 0
 }

@@ -31,7 +31,7 @@ use Rattle.policy_select.proofs.MembersOfZoneList.{one_of_key, put_or_in, set_in
 use Rattle.policy_select.specs.Zones.{AreZones, Zone, placed_in}
 use Rattle.zone_model.specs.Slotted.{IsHere, Slotted}
 use Rattle.zone_model.specs.Zones.{IsAmong, group}
-use Rattle.health_planning.specs.Wired.{IsAlone, AreMembers, HaveValves, IsValveFor, IsGroupValve, IsSeated, IsSetValve, IsSpare, IsTarget, valves_of, group_seat, ids_of, is_watched, place_of, seat_of, spare_condition, valve_with, watched_of, with_valve, own_part, set_seat}
+use Rattle.health_planning.specs.Wired.{AreMembers, HaveValves, IsAlone, IsGroupValve, IsSeated, IsSetValve, IsSpare, IsTarget, IsVacant, IsValveFor, group_seat, ids_of, is_watched, own_part, place_of, seat_of, set_seat, spare_condition, valve_with, valves_of, watched_of, with_valve}
 use Rattle.health_planning.specs.declared.seats.Seat.{Seat}
 use Rattle.health_planning.proofs.Numbers.{number_there}
 use Rattle.health_planning.proofs.Places.{id_at, of_all, one_place}
@@ -304,14 +304,18 @@ module _ (zones : List Zone) (checks : Checks) (numbers : List ℕ) (seats : Lis
     last_fed (suc k) x y (z, fed, more) = last_fed k z y more
 
     module _ (nodes : (valve : ℕ) → valve < net.size
-        → IsSpare numbers valve ⊎ ((node : Node) × IsValve valve node))
+        → IsSpare numbers valve ⊎ (IsVacant net valve ⊎ ((node : Node) × IsValve valve node)))
         (spares : (valve : ℕ) → IsSpare numbers valve → net.condition valve ≡ spare_condition) where
-      -- a valve that something feeds isn't spare
+      -- a valve that something feeds is neither spare nor vacant
       fed_node : (w y : ℕ) → Feeds net w y → y < net.size → (node : Node) × IsValve y node
       fed_node w y fed within = elim (nodes y within) [
         | inl spare ↦
             absurd (nothing_in w (subst (λ (l : List ℕ). Contains l w) (ap (λ r. r.feeders) (spares y spare)) fed))
-        | inr node ↦ node
+        | inr rest ↦ elim rest [
+          | inl vacant ↦
+              absurd (nothing_in w (subst (λ (l : List ℕ). Contains l w) (ap (λ r. r.feeders) vacant.1) fed))
+          | inr node ↦ node
+        ]
       ]
 
       -- where all that is fed is there, no path is long

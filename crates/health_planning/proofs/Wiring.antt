@@ -33,7 +33,7 @@ use Rattle.zone_model.specs.Zones.{IsAmong, IsRising, group, is_of_group}
 use Rattle.policy_select.specs.Looking.{RefersTo}
 use Rattle.policy_select.specs.Tables.{HaveSlotsApart}
 use Rattle.health_planning.specs.Building.{AllListed, AllTell, AreTriggered, HasTarget, HasTargetValve, IsBuilt, IsListed, TellsCheck, check_trigger, group_trigger, number, set_trigger, spare_trigger}
-use Rattle.health_planning.specs.Wired.{AreMembers, HasSlot, HaveValves, IsAlone, IsFirstIn, IsValveFor, IsGroupValve, IsSeated, IsSetValve, IsSpare, IsTarget, AreValvesOf, TellGroup, check_seat, valves_of, group_seat, ids_of, is_watched, only_check, own_part, plain_among, seat_of, set_seat, spare_condition, valve_with, with_valve}
+use Rattle.health_planning.specs.Wired.{AreMembers, HasSlot, HaveValves, IsAlone, IsFirstIn, IsValveFor, IsGroupValve, IsSeated, IsSetValve, IsSpare, IsTarget, AreValvesOf, TellGroup, check_seat, valves_of, group_seat, ids_of, is_watched, only_check, own_part, plain_among, seat_of, set_seat, spare_condition, valve_with, with_valve, IsVacant}
 use Rattle.health_planning.specs.declared.seats.Seat.{Seat}
 use Rattle.health_planning.proofs.ListedOnce.{one_ref, own_is}
 use Rattle.health_planning.proofs.Numbers.{number_or_none}
@@ -434,23 +434,24 @@ module _ (zones : List Zone) (list : List (ℕ × Check)) (numbers : List ℕ) (
 
   -- each valve is that of a node, or spare
   pub nodes : (valve : ℕ) → valve < length blueprint.triggers → IsSpare numbers valve
-      ⊎ ((node : Node) × IsValveFor zones list numbers seats (net_in blueprint) (own_in blueprint) valve node)
+      ⊎ (IsVacant (net_in blueprint) valve
+      ⊎ ((node : Node) × IsValveFor zones list numbers seats (net_in blueprint) (own_in blueprint) valve node))
   nodes valve within = elim (cases_lt valve 200) [
     | inl early ↦ elim (number_or_none numbers valve) [
       | inl at ↦
           let many = valves.as_many in
           let within_list = slice_get_within numbers at.0 valve at.1 in
           let held = filled list at.0 (omega arith) in
-          inr (CheckNode held.0.0, (at.0, (held.0.1, (held.1, at.1))))
+          inr (inr (CheckNode held.0.0, (at.0, (held.0.1, (held.1, at.1)))))
       | inr none ↦ inl (early, none)
     ]
     | inr behind ↦ elim (cases_lt valve (200 + length refs)) [
-      | inl early ↦ inr (set_node valve behind early)
+      | inl early ↦ inr (inr (set_node valve behind early))
       | inr late ↦
           let slot = built.groups.all valve late within in
           let g = built.groups.valves slot.0 valve slot.1 in
           let f = first_of g.1.members g.1.here.0 g.1.here.1 in
-          inr (
+          inr (inr (
             GroupNode g.1.zone g.1.name g.1.rtype,
             (
               g.1.members,
@@ -459,7 +460,7 @@ module _ (zones : List Zone) (list : List (ℕ × Check)) (numbers : List ℕ) (
                 group_there g.1.members f.p.slot valve (f.p, f.at, refl) (g.1.each f.p f.here) g.1.each g.0 g.1.trigger g.1.fed,
               ),
             ),
-          )
+          ))
     ]
   ]
     where

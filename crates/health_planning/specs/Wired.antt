@@ -4,7 +4,7 @@ use Rattle.std.specs.Option.{option_to_list}
 use Rattle.check_model.specs.Checks.{Checks, children_of}
 use Rattle.check_model.specs.declared.checks.Check.{Check}
 use Rattle.check_model.specs.declared.checks.Check.TheVariants.{Endpoint, Calculated}
-use Rattle.health_valves.specs.Valves.{Net, Condition}
+use Rattle.health_valves.specs.Valves.{Net, Condition, unfed_condition}
 use Rattle.health_model.specs.Healthy.{Watched}
 use Rattle.health_model.specs.Nodes.{CheckNode, GroupNode, Node, SetNode}
 use Rattle.health_model.specs.Statuses.{Report, passing}
@@ -256,8 +256,13 @@ IsSpare numbers valve = (valve < 200) × ((place : ℕ) → slice_get numbers pl
 abbrev pub spare_condition : Condition
 spare_condition = record { need = 0; inverted = false; feeders = [] }
 
--- The valves are those of the configuration, and spare ones for more checks, and there are no others. The sets
--- of a group with a valve have valves of their own, where something decides them.
+-- The valve is vacant: it stands behind those of 200 checks, and is of no set and no group any more. Nothing
+-- feeds it, and nothing has to be open for it.
+abbrev pub IsVacant : Net → (valve : ℕ) → Type 0
+IsVacant net valve = (200 ≤ valve) × (net.condition valve ≡ unfed_condition)
+
+-- The valves are those of the configuration, spare ones for more checks and vacant ones, and there are no
+-- others. The sets of a group with a valve have valves of their own, where something decides them.
 pub record AreValvesOf (zones : List Zone) (checks : List (ℕ × Check)) (numbers : List ℕ)
     (seats : List Seat) (net : Net) (own : ℕ → ℕ) (reports : List Report) : Type 0 where
   pub its_checks : (place valve id : ℕ) (check : Check) → slice_get checks place ≡ Some (id, check)
@@ -265,8 +270,8 @@ pub record AreValvesOf (zones : List Zone) (checks : List (ℕ × Check)) (numbe
       → IsCheckValve (ids_of checks) numbers net own reports valve id check
   pub its_sets : (zone : ℕ) (p : Slotted) → IsHere (placed_in zones zone) p
       → IsSeated zones (ids_of checks) numbers seats net own zone p
-  pub its_nodes : (valve : ℕ) → valve < net.size → IsSpare numbers valve
-      ⊎ ((node : Node) × IsValveFor zones checks numbers seats net own valve node)
+  pub its_nodes : (valve : ℕ) → valve < net.size → IsSpare numbers valve ⊎ (IsVacant net valve
+      ⊎ ((node : Node) × IsValveFor zones checks numbers seats net own valve node))
   pub spares : (valve : ℕ) → IsSpare numbers valve → net.condition valve ≡ spare_condition
   pub many : 200 ≤ net.size
   pub its_groups : (slot valve : ℕ) → group_seat seats slot ≡ suc valve → valve < net.size

@@ -396,7 +396,8 @@ module _ (before after : List Zone) (checks : Checks) (reports : List Report) (i
         its_sets = seated;
         its_nodes = λ valve within. elim (stands.wired.its_nodes valve within) [
           | inl spare ↦ inl spare
-          | inr n ↦ inr (node_now valve n.0 n.1)
+          | inr (inl vacant) ↦ inr (inl vacant)
+          | inr (inr n) ↦ inr (inr (node_now valve n.0 n.1))
         ];
         spares = stands.wired.spares;
         many = stands.wired.many;

@@ -265,10 +265,11 @@ module _ (before after : List Zone) (checks : Checks) (reports : List Report) (i
       its_sets = seated_beside;
       its_nodes = λ valve within. elim (stands.wired.its_nodes valve within) [
         | inl spare ↦ inl spare
-        | inr n ↦
+        | inr (inl vacant) ↦ inr (inl vacant)
+        | inr (inr n) ↦
             let m = node_now before after stands.are_zones are_after removed added moves index.seats by_went by_came checks.list index.numbers
             stands.net stands.own its_ids index.valves valve n.0 n.1 in
-            inr (m.0, node_same after index.seats now own_same beside.groups stands.net stands.own checks.list index.numbers valve m.0 m.1)
+            inr (inr (m.0, node_same after index.seats now own_same beside.groups stands.net stands.own checks.list index.numbers valve m.0 m.1))
       ];
       spares = stands.wired.spares;
       many = stands.wired.many;

@@ -646,7 +646,8 @@ module _ (before after : List Zone) (reports : List Report) (index : Index) (del
       its_nodes = λ valve within.
           elim (stands.wired.its_nodes valve within) [
             | inl spare ↦ inl spare
-            | inr n ↦ inr (node_now before after stands.are_zones are_after delta.removed delta.added moves index.seats by_went by_came checks.list index.numbers stands.net stands.own index.ids index.valves valve n.0 n.1)
+            | inr (inl vacant) ↦ inr (inl vacant)
+            | inr (inr n) ↦ inr (inr (node_now before after stands.are_zones are_after delta.removed delta.added moves index.seats by_went by_came checks.list index.numbers stands.net stands.own index.ids index.valves valve n.0 n.1))
           ];
       spares = stands.wired.spares;
       many = stands.wired.many;

@@ -22,7 +22,7 @@ use Rattle.zone_model.specs.Slotted.{IsHere, Slotted}
 use Rattle.health_planning.specs.Looking.{RefersTo}
 use Rattle.health_planning.specs.Building.{AreGiven, IsListed, IsSeen, HoldsSet}
 use Rattle.health_planning.specs.Changes.{ref_in}
-use Rattle.health_planning.specs.Wired.{AreMembers, HasSlot, HaveValves, IsGroupSeat, IsLedTo, IsSpare, AreValvesOf, StandApart, TellGroup, group_seat, ids_of, is_watched, open_in, seat_of, set_seat, valve_with, watched_of}
+use Rattle.health_planning.specs.Wired.{AreMembers, HasSlot, HaveValves, IsGroupSeat, IsLedTo, IsSpare, AreValvesOf, StandApart, TellGroup, group_seat, ids_of, is_watched, open_in, seat_of, set_seat, valve_with, watched_of, IsVacant}
 use Rattle.health_planning.specs.declared.seats.Seat.{Seat}
 use Rattle.health_standing.specs.Kin.{kin_of}
 
@@ -86,7 +86,7 @@ OwnListed zones refs seats = (zone valve : ℕ) (p : Slotted) → IsHere (placed
     → seat_of seats p.slot ≡ suc valve → IsListed refs (ref_in zone p)
 
 -- The index is laid out for a sound configuration and reports: its valves are wired for them, and what
--- is counted is of them. Values may have to be worked out still; but a valve that no check has is open.
+-- is counted is of them. Values may have to be worked out still; but a valve that is spare or vacant is open.
 pub record IsLaidFor (zones : List Zone) (checks : Checks) (reports : List Report) (index : Index)
     : Type 0 where
   pub are_zones : AreZones zones
@@ -109,6 +109,7 @@ pub record IsLaidFor (zones : List Zone) (checks : Checks) (reports : List Repor
   pub fits : ValvesStandFor net own index.valves
   pub ends : HasEnds net
   pub spare : (valve : ℕ) → IsSpare index.numbers valve → value_of index.valves valve ≡ true
+  pub vacant : (valve : ℕ) → valve < net.size → IsVacant net valve → value_of index.valves valve ≡ true
   pub idle : IsIdle index.valves
 
 -- The index stands for a sound configuration and reports: it is laid out for them, and all is worked
@@ -176,11 +177,17 @@ IsNumberOf zones index number node =
 abbrev pub HasNumber : List Zone → Index → Node → Type 0
 HasNumber zones index node = (number : ℕ) × IsNumberOf zones index number node
 
--- The index has a node of the number: that of a check; behind the first 200 valves that of a set or a group;
--- and behind all valves that of a set which a check alone decides.
+-- So many of those that feed a valve have to be open.
+abbrev pub Needs : Valves → (valve many : ℕ) → Type 0
+Needs valves valve many =
+    (net : Net) (own : ℕ → ℕ) → ValvesStandFor net own valves → (net.condition valve).need ≡ many
+
+-- The index has a node of the number: that of a check; behind the first 200 valves that of a set or a group,
+-- for which something has to be open, as it hasn't for a vacant one; and behind all valves that of a set which
+-- a check alone decides.
 abbrev pub HasNode : Index → (number : ℕ) → Type 0
 HasNode index number = ((place : ℕ) × (slice_get index.numbers place ≡ Some number))
-    ⊎ (((200 ≤ number) × (number < size_of index.valves))
+    ⊎ (((200 ≤ number) × ((number < size_of index.valves) × (Needs index.valves number 0 → ⊥)))
     ⊎ ((size_of index.valves ≤ number)
     × TellsOfCheck index.seats (number - size_of index.valves)))
 

@@ -21,6 +21,7 @@ use Rattle.health_planning.specs.Later.{AreLater}
 use Rattle.health_planning.specs.Telling.{evaluates, target_of}
 use Rattle.health_planning.specs.Wired.{AreMembers, IsGroupSeat, check_seat, group_seat, is_watched, only_check, seat_of, set_seat, valve_with}
 use Rattle.health_planning.specs.declared.seats.Seat.{Seat}
+use Rattle.health_standing.specs.Index.{Needs}
 
 -- A command on zones makes an edit that is allowed, tells which sets went and came by it, and leaves
 -- the checks as they are. One on checks leaves the zones as they are, and tells of no zone.
@@ -65,11 +66,6 @@ IsAsTold seats slot set =
 abbrev pub IsFed : Valves → (feeder valve : ℕ) → Type 0
 IsFed valves feeder valve =
     (net : Net) (own : ℕ → ℕ) → ValvesStandFor net own valves → Feeds net feeder valve
-
--- So many of those that feed a valve have to be open.
-abbrev pub Needs : Valves → (valve many : ℕ) → Type 0
-Needs valves valve many =
-    (net : Net) (own : ℕ → ℕ) → ValvesStandFor net own valves → (net.condition valve).need ≡ many
 
 -- The valve of a check feeds another, where a check is named.
 abbrev pub IsFedByCheck : (ids numbers : List ℕ) → Valves → Option ℕ → (valve : ℕ) → Type 0

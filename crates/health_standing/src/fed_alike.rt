@@ -3,7 +3,8 @@
 
 ghost use Rattle.std.specs.Prelude.{◌≡◌, ◌<◌, ◌+◌, ◌↔◌, ℕ, IsTrue, List, Option, length, slice_get, suc, true};
 ghost use Rattle.std.specs.Option.{option_to_list};
-ghost use Rattle.health_standing.specs.Leaving.{IsAsFed, IsFedByCheck, IsFedByTarget, Needs};
+ghost use Rattle.health_standing.specs.Index.{Needs};
+ghost use Rattle.health_standing.specs.Leaving.{IsAsFed, IsFedByCheck, IsFedByTarget};
 ghost use Rattle.health_planning.specs.Looking.{RefersTo};
 ghost use Rattle.health_planning.specs.Telling.{evaluates, watch_of};
 ghost use Rattle.health_planning.specs.Wired.{StandApart, group_seat, seat_of, set_seat};

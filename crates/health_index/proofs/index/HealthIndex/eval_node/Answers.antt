@@ -4,14 +4,14 @@ use mathlib.Core.Path.{subst}
 use Rattle.health_valves.specs.Valves.{ValvesStandFor, size_of}
 use Rattle.health_valves.specs.declared.valves.Valves.{Valves}
 use Rattle.health_index.specs.Index.{HasNode, Index, IsLaidFor, IsNumberOf}
-use Rattle.health_planning.specs.Wired.{IsSpare}
+use Rattle.health_planning.specs.Wired.{IsSpare, IsVacant}
 use Rattle.health_index.proofs.Evaluating.{still_idle, works_alone, works_out_of}
-use Rattle.health_index.proofs.Numbering.{past, there}
+use Rattle.health_index.proofs.Numbering.{not_vacant, past, there}
 use Rattle.health_index.proofs.index.HealthIndex.eval_node.Goals as goal
 
 -- a spare valve is not that of a node
-not_of_node : (numbers : List ℕ) (valve node size : ℕ) {P : Type 0} → IsSpare numbers valve
-    → ((place : ℕ) × (slice_get numbers place ≡ Some node)) ⊎ (((200 ≤ node) × (node < size)) ⊎ ((size ≤ node) × P))
+not_of_node : (numbers : List ℕ) (valve node size : ℕ) {P Q : Type 0} → IsSpare numbers valve
+    → ((place : ℕ) × (slice_get numbers place ≡ Some node)) ⊎ (((200 ≤ node) × Q) ⊎ ((size ≤ node) × P))
     → node < size → valve ≡ node → ⊥
 not_of_node numbers valve node size spare (inl low) within e = spare.1 low.0 (low.1 ∙ ap Some (sym e))
 not_of_node numbers valve node size spare (inr (inl high)) within e =
@@ -77,6 +77,8 @@ returns-clause-works_out g c zones checks reports n laid is =
           (still_idle _ _ e.rest inner.idle)
           (λ valve spare.
           e.others valve (λ same. not_of_node c.self.inside.numbers.items valve c.args.node (size_of c.self.inside.valves) spare has (omega arith) same) ∙ inner.spare valve spare)
+          (λ valve within vacant.
+          e.others valve (λ same. not_vacant zones checks reports _ inner c.args.node n own (subst (IsVacant inner.net) same vacant)) ∙ inner.vacant valve within vacant)
           _ c.self.view_is
           c.args.node n c.eval_node.result own (e.meets inner.net inner.own inner.fits inner.ends) (λ k. e.spares inner.net inner.own k inner.fits) e.changed
       | inr behind ↦

@@ -1,7 +1,7 @@
-use Rattle.std.proofs.Common.{◌≡◌, ◌∙◌, ◌-◌, ◌↔◌, ℕ, IsTrue, List, arith, refl, ap, inl, inr, Some}
+use Rattle.std.proofs.Common.{◌≡◌, ◌∙◌, ◌-◌, ◌↔◌, ℕ, IsTrue, List, arith, ap, sym, inl, inr, Some}
 use Rattle.std.specs.Prelude.{slice_get}
 use mathlib.Core.Path.{subst}
-use Rattle.health_index.specs.Index.{HasNode, Index, TellsOfCheck}
+use Rattle.health_index.specs.Index.{HasNode, Index, Needs, TellsOfCheck}
 use Rattle.health_planning.specs.declared.seats.Seat.{Seat}
 use Rattle.health_valves.specs.Valves.{size_of}
 use Rattle.health_index.proofs.index.HealthIndex.has_node.Goals as goal
@@ -20,7 +20,7 @@ returns-then-number-many c =
       λ has. elim has [
         | inl low ↦ (let within = w.within low.0 c.args.node low.1 in absurd (omega arith))
         | inr rest ↦ elim rest [
-          | inl high ↦ (let within = high.1 in absurd (omega arith))
+          | inl high ↦ (let within = high.1.0 in absurd (omega arith))
           | inr behind ↦ its.1 behind.1
         ]
       ],
@@ -32,7 +32,18 @@ returns-then-number-ge-MOST_CHECKS c =
     let late = c.if-number-ge-MOST_CHECKS.true in
     let many = c.len-many.ensures in
     let size = ap (λ (i : Index). size_of i.valves) c.self.view_is in
-    (λ t. inr (inl (omega arith, omega arith)), λ has. refl)
+    let its = subst (λ (i : Index). IsTrue c.is_taken.result ↔ (Needs i.valves c.args.node 0 → ⊥)) c.self.view_is c.is_taken.ensures in (
+      λ t. inr (inl (omega arith, (omega arith, its.0 t))),
+      λ has. elim has [
+        | inl low ↦
+            let w = c.self.invariant in
+            let numbered = subst (λ (i : Index). slice_get i.numbers low.0 ≡ Some c.args.node) (sym c.self.view_is) low.1 in
+            let before = w.numbers.early low.0 c.args.node numbered in
+            absurd (omega (arith, late, before))
+        | inr (inl some) ↦ its.1 some.1.1
+        | inr (inr behind) ↦ (let past = behind.0 in absurd (omega (arith, past, size, many, early)))
+      ],
+    )
 
 pub returns : goal.returns
 returns c =
