@@ -129,7 +129,7 @@ module _ (before after : List Zone) (are_before : AreZones before) (are_after : 
       first_in [] x at = let no : ⊥ = cc in absurd no
       first_in (y ∷ xs) x at = inl (some_same at)
 
-  names_none : (made : ZoneEdit) → IsAllowed before made → Edits before made after delta
+  pub names_none : (made : ZoneEdit) → IsAllowed before made → Edits before made after delta
       → (named : RecordSet) → RefersTo after ref named → ⊥
   names_none (edit.Begin zone name sets) allowed edits named names =
       let many = edits.its.1.as_many_removed in

@@ -2,6 +2,7 @@ pub mod Agreed
 pub mod Again
 pub mod Behind
 pub mod CanRegroup
+pub mod CanUnlead
 pub mod Commanded
 pub mod Commanding
 pub mod Costing
@@ -29,8 +30,10 @@ pub use Rattle.health_standing.proofs.FedAlike
 pub use Rattle.health_standing.proofs.GroupJoined
 pub use Rattle.health_standing.proofs.GroupLeft
 pub use Rattle.health_standing.proofs.Keyed
+pub use Rattle.health_standing.proofs.Leading
 pub use Rattle.health_standing.proofs.Moving
 pub use Rattle.health_standing.proofs.Regrouped
 pub use Rattle.health_standing.proofs.Reseated
 pub use Rattle.health_standing.proofs.Slots
 pub use Rattle.health_standing.proofs.Staying
+pub use Rattle.health_standing.proofs.Unled

@@ -1,5 +1,5 @@
 -- What it is to stand for a configuration and reports.
-use Rattle.std.specs.Prelude.{◌≡◌, ◌↔◌, ◌⊎◌, ◌^◌, ℕ, false, List, None, Some}
+use Rattle.std.specs.Prelude.{◌≡◌, ◌↔◌, ◌⊎◌, ◌^◌, ℕ, false, true, List, None, Some}
 use Rattle.check_model.specs.Checks.{Checks}
 use Rattle.check_model.specs.Checks.{IsSound as AreSoundChecks}
 use Rattle.check_model.specs.Commands.{checks_after}
@@ -15,6 +15,7 @@ use Rattle.health_planning.specs.Looking.{RefersTo}
 use Rattle.health_planning.specs.SetRefRecord.{SetRef}
 use Rattle.health_planning.specs.Tables.{HaveSlotsApart, HaveSlotsBelow}
 use Rattle.health_planning.specs.ZoneEditRecord.{ZoneEdit}
+use Rattle.record_set.specs.declared.sets.Body.TheVariants as body
 use Rattle.record_set.specs.declared.sets.RecordSet.{RecordSet}
 use Rattle.zone_model.specs.Slotted.{IsHere, Slotted}
 use Rattle.health_planning.specs.Later.{AreLater}
@@ -25,6 +26,7 @@ use Rattle.health_index.specs.declared.following.Way.TheVariants as way
 use Rattle.health_index.specs.Index.{AreNumbered, Index, IsEndpoint, IsEndpointOf, IsLaidFor, StandsFor, Tells}
 use Rattle.health_index.specs.Kin.{kin_of}
 use Rattle.health_index.specs.Regrouping.{HasCome, HasGone, JoinsGroup, LeavesGroup, TellNoOther}
+use Rattle.health_index.specs.Unleading.{LeavesValve}
 use Rattle.health_index.specs.Values.{AreValues, MeetsIn}
 
 -- An index tells the health of that for which it stands.
@@ -103,3 +105,14 @@ SetsCanJoin = (before after : List Zone) (checks : Checks) (reports : List Repor
     → RefersTo after ref set → is_watched set ≡ false → IsLedTo before ref.zone set.name set.rtype
     → (valve : ℕ) × (JoinsGroup after index.seats index.valves ref valve
     × TellNoOther after index.seats ref.zone set.name set.rtype valve)
+
+-- Where an evaluated alias went by an edit, of a group to which none led, and another one leads where it led, its
+-- seat and the valves tell all that is wanted to leave its valve without a node.
+abbrev pub AliasesCanLeave : Type 0
+AliasesCanLeave = (before after : List Zone) (checks : Checks) (reports : List Report) (index : Index)
+    (made : ZoneEdit) (delta : Delta) (ref : SetRef) (p : Slotted) (name : List (List ℕ))
+    → StandsFor before checks reports index → AreZones after → IsAllowed before made
+    → Edits before made after delta → HasGone delta ref → IsHere (placed_in before ref.zone) p
+    → p.slot ≡ ref.slot → p.set.body ≡ body.Alias name true
+    → (IsLedTo before ref.zone p.set.name p.set.rtype → ⊥) → IsLedTo after ref.zone name p.set.rtype
+    → (valve : ℕ) × LeavesValve after index.seats index.valves ref valve

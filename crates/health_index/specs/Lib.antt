@@ -20,3 +20,4 @@ pub use Rattle.health_standing.specs.Index
 pub use Rattle.health_standing.specs.Kin
 pub use Rattle.health_standing.specs.Leaving
 pub use Rattle.health_standing.specs.Regrouping
+pub use Rattle.health_standing.specs.Unleading

@@ -21,8 +21,9 @@ ghost use Rattle.health_index.specs.Leaving.{AreLeft, KeepsValves, Moves, Spares
 ghost use Rattle.health_index.specs.Regrouping.{HasCome, HasGone, Joins, JoinsGroup, Leaves};
 ghost use Rattle.health_index.specs.Regrouping.{LeavesGroup, TellNoOther};
 ghost use Rattle.health_index.specs.Room.{HasRoom, Keeps};
+ghost use Rattle.health_index.specs.Unleading.{LeavesValve, Unleads};
 ghost use Rattle.health_index.specs.Values.{WorksOut};
-ghost use Rattle.health_planning.specs.Wired.{watched_of};
+ghost use Rattle.health_planning.specs.Wired.{group_seat, watched_of};
 ghost use Rattle.health_model.specs.Nodes.{CheckNode, InCone, Node};
 ghost use Rattle.health_model.specs.Sound.{IsSound};
 ghost use Rattle.health_model.specs.Statuses.{Report, status, status_told};
@@ -48,7 +49,7 @@ use health_planning::{
 };
 use health_standing::{
     gone_by, group_joined, group_left, leaves_valves, one_come, one_gone, put_seat, seat_in,
-    spares_valves, tells_of_check, valve_of,
+    spares_valves, tells_of_check, valve_left, valve_of,
 };
 use health_valves::{Blueprint, Steps, Valves};
 use octets::OutOfMemory;
@@ -223,7 +224,8 @@ impl HealthIndex {
     /// alias, whichever checks they name, it costs a look at these, at their groups and at the
     /// numbers of checks. Where one set alone went or came, nothing decides it, and an evaluated alias
     /// leads to its group, it costs a look at that group, and what stands above it where its value
-    /// changes.
+    /// changes. Where an evaluated alias alone went, of a group to which none leads, and another one leads
+    /// to its target group, it costs a look at what fed its valve, which goes on without a node.
     ///
     /// Where it tells of no zone, and no calculated check came, went or got other children: where
     /// checks have the numbers of those before, as after UpdateHealthCheck, or one of an endpoint came
@@ -264,6 +266,12 @@ impl HealthIndex {
             → TellNoOther zones.now.zones self.old.seats ref.zone named.name named.rtype valve
             → length self.old.members < self.old.space.members
             → Joins ref valve self.old self.new }
+
+        // Where one set with a valve of its own went, as an evaluated alias has, from a group without one, and
+        // another leads where it led, nothing feeds that valve any more and a seat changes, and nothing else.
+        ensures unled { (ref : SetRef) (valve : ℕ) → HasGone delta.now ref
+            → LeavesValve zones.now.zones self.old.seats self.old.valves ref valve
+            → Unleads ref valve self.old self.new }
 
         // Where calculated checks stay with their children, and those of endpoints do or one of them came or
         // went, nothing changes but the valves of checks, those above, and what the index has of that one.
@@ -337,9 +345,9 @@ impl HealthIndex {
         true
     }
 
-    /// Takes a command by which one set that nothing decides came into a group with a valve, or went from one.
-    /// The answer is whether it is one, and there is room to note the set; else the index stays as it is. It
-    /// takes no memory.
+    /// Takes a command by which one set that nothing decides came into a group with a valve, or went from one,
+    /// or one with a valve of its own went. The answer is whether it is one, and there is room to note the set;
+    /// else the index stays as it is. It takes no memory.
     fn regroup(&mut self, zones: &Zones, checks: &CheckTable, delta: &Delta) -> bool
         requires room { HasRoom self.old zones.now.slots }
         requires sound { IsSound (watched_of zones.now.zones checks.now.checks) }
@@ -358,9 +366,15 @@ impl HealthIndex {
             → TellNoOther zones.now.zones self.old.seats ref.zone named.name named.rtype valve
             → length self.old.members < self.old.space.members
             → (result ≡ true) × Joins ref valve self.old self.new }
+        ensures unled { (ref : SetRef) (valve : ℕ) → HasGone delta.now ref
+            → LeavesValve zones.now.zones self.old.seats self.old.valves ref valve
+            → (result ≡ true) × Unleads ref valve self.old self.new }
     {
         if let Some(set) = one_gone(delta) {
-            return self.leave(zones, checks, delta, set);
+            if self.leave(zones, checks, delta, set) {
+                return true;
+            }
+            return self.unlead(zones, checks, delta, set);
         }
         if let Some(set) = one_come(delta) {
             return self.join(zones, checks, delta, set);
@@ -368,7 +382,7 @@ impl HealthIndex {
         false
     }
 
-    /// Takes a command by which one set alone went.
+    /// Takes a command by which one set alone went that nothing decides.
     fn leave(&mut self, zones: &Zones, checks: &CheckTable, delta: &Delta, set: SetRef) -> bool
         requires sound { IsSound (watched_of zones.now.zones checks.now.checks) }
         requires gone { HasGone delta.now set }
@@ -377,6 +391,7 @@ impl HealthIndex {
             → AreLeft before old zones.now.zones checks.now.checks delta.now → result ≡ true
             → StandsFor zones.now.zones checks.now.checks reports self.new }
         ensures stays { result ≡ false → self.new ≡ self.old }
+        ensures group { result ≡ true → group_seat self.old.seats set.slot ≢ 0 }
         ensures left { (valve : ℕ)
             → LeavesGroup zones.now.zones self.old.seats self.old.valves set valve
             → (result ≡ true) × Leaves set valve self.old self.new }
@@ -388,6 +403,29 @@ impl HealthIndex {
         };
         let own = self.valves.own(valve as usize);
         self.valves.set_count(valve, own - 1);
+        put_seat(&mut self.seats, set.slot, 0);
+        true
+    }
+
+    /// Takes a command by which one set alone went that has a valve of its own.
+    fn unlead(&mut self, zones: &Zones, checks: &CheckTable, delta: &Delta, set: SetRef) -> bool
+        requires sound { IsSound (watched_of zones.now.zones checks.now.checks) }
+        requires gone { HasGone delta.now set }
+        ensures stands { (before : List Zone) (old : Checks) (reports : List Report)
+            → StandsFor before old reports self.old
+            → AreLeft before old zones.now.zones checks.now.checks delta.now → result ≡ true
+            → StandsFor zones.now.zones checks.now.checks reports self.new }
+        ensures stays { result ≡ false → self.new ≡ self.old }
+        ensures unled { (valve : ℕ)
+            → LeavesValve zones.now.zones self.old.seats self.old.valves set valve
+            → (result ≡ true) × Unleads set valve self.old self.new }
+    {
+        zones.well_formed();
+        zones.slots_apart();
+        let Some(valve) = valve_left(zones, &self.seats, &self.valves, set) else {
+            return false;
+        };
+        self.valves.unfeed(valve);
         put_seat(&mut self.seats, set.slot, 0);
         true
     }

@@ -1,6 +1,6 @@
 //! Laws over the definitions. Each stands as the contract of a function that does nothing.
 
-ghost use Rattle.health_index.specs.Laws.{ChecksAreLater, IndexTells, NodesAreNumbered};
+ghost use Rattle.health_index.specs.Laws.{AliasesCanLeave, ChecksAreLater, IndexTells, NodesAreNumbered};
 ghost use Rattle.health_index.specs.Laws.{ChecksCanFollow, CommandsCanFollow, NodesHaveValues};
 ghost use Rattle.health_index.specs.Laws.{SetsCanJoin, SetsCanLeave, StandsWhereAllMeet};
 
@@ -48,4 +48,10 @@ pub fn checks_can_follow()
 pub fn sets_can_regroup()
     ensures leave { SetsCanLeave }
     ensures join { SetsCanJoin }
+{}
+
+/// Where an index stands for zones, and an evaluated alias goes by an edit, of a group to which none leads,
+/// while another one leads to its target group, the index has what it wants to leave its valve vacant.
+pub fn aliases_can_leave()
+    ensures { AliasesCanLeave }
 {}

@@ -29,7 +29,7 @@ use Rattle.record_set.specs.declared.sets.RecordSet.{RecordSet}
 
 -- ---- what holds of every index
 
-given_in : (refs members noted : List SetRef) (seats now : List Seat) (slot group : ℕ)
+pub given_in : (refs members noted : List SetRef) (seats now : List Seat) (slot group : ℕ)
     → IsSeatedIn slot group seats now → AreGiven refs members seats
     → ((s : ℕ) → TellSlot members s → TellSlot noted s) → (group ≢ 0 → TellSlot noted slot)
     → AreGiven refs noted now

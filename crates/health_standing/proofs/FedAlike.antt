@@ -47,16 +47,16 @@ on_body rtype (body.Alias target true) name its_type on is =
 on_body rtype (body.Alias target false) name its_type on is = absurd (false≢true on)
 
 -- the valve that feeds one beside those of checks is that of the target group
-record IsLed (zones : List Zone) (seats : List Seat) (net : Net) (own : ℕ → ℕ) (zone : ℕ) (rtype : RType)
+pub record IsLed (zones : List Zone) (seats : List Seat) (net : Net) (own : ℕ → ℕ) (zone : ℕ) (rtype : RType)
     (its : Body) (target : List ℕ) (valve : ℕ) : Type 0 where
-  name : List (List ℕ)
-  alias : its ≡ body.Alias name true
-  one : target ≡ valve ∷ []
-  members : List Slotted
-  are : AreMembers zones zone name rtype members
-  is : IsGroupValve seats net own members valve
+  pub name : List (List ℕ)
+  pub alias : its ≡ body.Alias name true
+  pub one : target ≡ valve ∷ []
+  pub members : List Slotted
+  pub are : AreMembers zones zone name rtype members
+  pub is : IsGroupValve seats net own members valve
 
-led_of : (zones : List Zone) (seats : List Seat) (net : Net) (own : ℕ → ℕ) (zone : ℕ) (rtype : RType)
+pub led_of : (zones : List Zone) (seats : List Seat) (net : Net) (own : ℕ → ℕ) (zone : ℕ) (rtype : RType)
     (its : Body) (target : List ℕ) (valve : ℕ) → IsTarget zones seats net own zone rtype its target
     → Contains target valve → IsLed zones seats net own zone rtype its target valve
 led_of zones seats net own zone rtype (body.Values ttl values) target valve is among =

@@ -6,8 +6,11 @@ pub mod FedAlike
 pub mod GroupJoined
 pub mod GroupLeft
 pub mod Keyed
+pub mod Leading
 pub mod Moving
 pub mod Regrouped
 pub mod Reseated
 pub mod Slots
 pub mod Staying
+pub mod Unled
+pub mod ValveLeft

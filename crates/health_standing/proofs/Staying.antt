@@ -286,6 +286,27 @@ module _ (before after : List Zone) (are_before : AreZones before) (are_after : 
       its_own = w.its_own ∙ plain_by_slots seats members members_now same;
     }
 
+  -- the seats that tell the valve of a group are those of its sets still, where an alias leads there
+  pub groups_led : (slot valve : ℕ) → group_seat seats slot ≡ suc valve
+      → (g : IsOfOneGroup before seats valve) → IsLedTo after g.zone g.name g.rtype
+      → IsOfOneGroup after seats valve
+  groups_led slot valve is g led =
+      let f = g.only slot is in
+      record {
+        zone = g.zone;
+        name = g.name;
+        rtype = g.rtype;
+        members = members_now g.zone g.name g.rtype g.members valve g.are g.each f.0 f.1;
+        are = are_now g.zone g.name g.rtype g.members valve g.are g.each f.0 f.1;
+        led = led;
+        behind = g.behind;
+        each = tell_now g.zone g.name g.rtype g.members valve g.are g.each f.0 f.1;
+        only = λ other tells.
+            let p = g.only other tells in
+            let q = to g.zone g.name g.rtype g.members valve g.are g.each f.0 f.1 p.0 p.1 in
+            (q.0, q.1, ap (λ (k : SetKey × ℕ). k.1) q.2 ∙ p.2);
+      }
+
   -- an alias whose target's health counts has a seat that names no check
   abbrev HasAliasSeat : Slotted → Type 0
   HasAliasSeat p = (seat_of seats p.slot ≢ 0) × (check_seat seats p.slot ≡ 0)
@@ -316,22 +337,7 @@ module _ (before after : List Zone) (are_before : AreZones before) (are_after : 
     -- the seats that tell the valve of a group are those of its sets still
     pub groups_now : (slot valve : ℕ) → group_seat seats slot ≡ suc valve
         → IsOfOneGroup before seats valve → IsOfOneGroup after seats valve
-    groups_now slot valve is g =
-        let f = g.only slot is in
-        record {
-          zone = g.zone;
-          name = g.name;
-          rtype = g.rtype;
-          members = members_now g.zone g.name g.rtype g.members valve g.are g.each f.0 f.1;
-          are = are_now g.zone g.name g.rtype g.members valve g.are g.each f.0 f.1;
-          led = led_now g.zone g.name g.rtype g.led;
-          behind = g.behind;
-          each = tell_now g.zone g.name g.rtype g.members valve g.are g.each f.0 f.1;
-          only = λ other tells.
-              let p = g.only other tells in
-              let q = to g.zone g.name g.rtype g.members valve g.are g.each f.0 f.1 p.0 p.1 in
-              (q.0, q.1, ap (λ (k : SetKey × ℕ). k.1) q.2 ∙ p.2);
-        }
+    groups_now slot valve is g = groups_led slot valve is g (led_now g.zone g.name g.rtype g.led)
 
     pub told_now : ((slot : ℕ) → set_seat seats slot ≢ 0 → HoldsSet after slot) → TellApart before seats
         → TellApart after seats

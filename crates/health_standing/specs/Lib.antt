@@ -2,6 +2,7 @@ pub mod Index
 pub mod Kin
 pub mod Leaving
 pub mod Regrouping
+pub mod Unleading
 pub use Rattle.check_model.specs.Checks
 pub use Rattle.checker_state.specs.Standing
 pub use Rattle.health_valves.specs.Valves

@@ -1,17 +1,20 @@
 //! What an index of health is, when it stands for a configuration and reports, and by which commands on sets it
-//! goes on standing where it stands: no valve changes but by what is counted at it.
+//! goes on standing where it stands: no valve changes but by what is counted at it, or that nothing feeds it.
 //!
 //! Sets give way to others by which no valve changes, or sets come and go beside all valves of sets and groups
 //! (`valve_leaving`, `fed_alike`); or one set that nothing decides comes into a group with a valve, or goes
-//! from one (`regrouping`). Each is told by the seats, the valves and the zones that a command left: what
-//! decided a set that went can't be read any more. `health_index` keeps the index and takes the commands.
+//! from one (`regrouping`); or an evaluated alias goes while another one leads to its target group (`unleading`).
+//! Each is told by the seats, the valves and the zones that a command left: what decided a set that went can't
+//! be read any more. `health_index` keeps the index and takes the commands.
 #![tactic(auto)]
 
 mod fed_alike;
 mod finding;
 mod regrouping;
+mod unleading;
 mod valve_leaving;
 
 pub use finding::{tells_of_check, valve_of};
 pub use regrouping::{group_joined, group_left, one_come, one_gone, put_seat, seat_in};
+pub use unleading::valve_left;
 pub use valve_leaving::{gone_by, leaves_valves, spares_valves};

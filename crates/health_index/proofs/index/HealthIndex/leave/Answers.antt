@@ -3,6 +3,7 @@ use mathlib.Core.Path.{subst}
 use Rattle.health_index.proofs.ByOne.{index_regrouped, left_by, recounts, whole_left}
 use Rattle.health_index.specs.Index.{Index, StandsFor}
 use Rattle.health_index.specs.Regrouping.{IsSeatedIn, LeavesGroup}
+use Rattle.health_planning.specs.Wired.{group_seat}
 use Rattle.health_planning.specs.declared.seats.Seat.{Seat}
 use Rattle.health_valves.specs.Valves.{ValvesStandFor, with_own}
 use Rattle.health_index.proofs.index.HealthIndex.leave.Goals as goal
@@ -69,3 +70,10 @@ returns-clause-left c valve leaves =
             (c.own-own.ensures net own (subst (λ (i : Index). ValvesStandFor net own i.valves) (sym c.self.view_is) fits) ∙ ap own one));
       },
     )
+
+pub returns-clause-group : goal.returns-clause-group
+returns-clause-group c done none =
+    let told = (c.in-Some.ensures.found c.in-Some.valve refl).seat in
+    let bare = ap (λ (i : Index). group_seat i.seats c.args.set.slot) c.self.view_is ∙ none in
+    let its = ap (λ (l : List Seat). group_seat l c.args.set.slot) c.deref.ensures.value ∙ bare in
+    omega (arith, told, its)

@@ -3,6 +3,7 @@ use Rattle.std.proofs.lemmas.Bool.{false≢true}
 use mathlib.Core.Path.{subst}
 use Rattle.health_index.proofs.ByOne.{joined_not_beside, joined_not_kept, left_not_beside, left_not_kept}
 use Rattle.health_index.proofs.Moving.{all_moved, zones_stay}
+use Rattle.health_index.proofs.Unled.{unled_not_beside, unled_not_kept}
 use Rattle.health_planning.specs.declared.seats.Seat.{Seat}
 use Rattle.health_index.proofs.Staying.{leaves_follow, stands_with_valves}
 use Rattle.health_index.specs.Index.{Index, StandsFor}
@@ -10,6 +11,7 @@ use Rattle.health_index.specs.Following.{AreSame, Follows, IsOpenTo, IsWay}
 use Rattle.health_index.specs.Kin.{kin_of}
 use Rattle.health_index.specs.Regrouping.{Joins, JoinsGroup, Leaves, LeavesGroup, TellNoOther}
 use Rattle.health_index.specs.Room.{HasRoom}
+use Rattle.health_index.specs.Unleading.{LeavesValve, Unleads}
 use Rattle.health_planning.specs.DeltaRecord.{Delta}
 use Rattle.health_planning.specs.Wired.{set_seat}
 use Rattle.health_planning.specs.Zones.{Zone}
@@ -152,6 +154,39 @@ returns-then-regroup-clause-joined c ref named valve come joins names alike few 
     (subst (λ (i : Index). JoinsGroup zones i.seats i.valves ref valve) (sym same) joins) names
     (subst (λ (i : Index). TellNoOther zones i.seats ref.zone named.name named.rtype valve) (sym same) alike)
     (subst (λ (i : Index). length i.members < i.space.members) (sym same) few)).1
+
+-- where one with a valve of its own went
+pub returns-then-leaves_valves-clause-unled : goal.returns-then-leaves_valves-clause-unled
+returns-then-leaves_valves-clause-unled c ref valve gone leaves =
+    let zones = c.args.zones.now.zones in
+    absurd (unled_not_kept zones c.args.self.now.ids c.args.self.now.numbers c.args.self.now.seats c.args.self.now.valves c.args.delta.now ref valve
+    (kept_by zones c.args.delta.now
+    (c.deref.ensures.value ∙ ap (λ (i : Index). i.ids) c.self.view_is)
+    (c.deref-2.ensures.value ∙ ap (λ (i : Index). i.numbers) c.self.view_is)
+    (c.deref-3.ensures.value ∙ ap (λ (i : Index). i.seats) c.self.view_is)
+    (ap (λ (i : Index). i.valves) c.self.view_is) (c.if-leaves_valves.ensures.0 refl)) gone leaves)
+
+pub returns-then-reseat-clause-unled : goal.returns-then-reseat-clause-unled
+returns-then-reseat-clause-unled c ref valve gone leaves =
+    let zones = c.args.zones.now.zones in
+    absurd (unled_not_beside zones c.args.self.now.seats c.args.self.now.valves c.args.delta.now ref valve
+    (subst (λ (i : Index). SparesValves zones i.seats c.args.delta.now) c.self.view_is (c.if-reseat.ensures.spares refl)) gone leaves)
+
+pub returns-then-regroup-clause-unled : goal.returns-then-regroup-clause-unled
+returns-then-regroup-clause-unled c ref valve gone leaves =
+    let zones = c.args.zones.now.zones in
+    let same = c.if-reseat.ensures.stays refl ∙ c.self.view_is in
+    subst (λ (i : Index). Unleads ref valve i c.regroup.new.self) same
+    (c.if-regroup.ensures.unled ref valve gone (subst (λ (i : Index). LeavesValve zones i.seats i.valves ref valve) (sym same) leaves)).1
+
+pub returns-then-follow-clause-unled : goal.returns-then-follow-clause-unled
+returns-then-follow-clause-unled c ref valve gone leaves = absurd (gone.zone (c.if-follow.ensures.zone refl))
+
+pub returns-clause-unled : goal.returns-clause-unled
+returns-clause-unled c ref valve gone leaves =
+    let zones = c.args.zones.now.zones in
+    let same = c.if-reseat.ensures.stays refl ∙ c.self.view_is in
+    absurd (false≢true (c.if-regroup.ensures.unled ref valve gone (subst (λ (i : Index). LeavesValve zones i.seats i.valves ref valve) (sym same) leaves)).0)
 
 pub returns-then-follow-clause-left : goal.returns-then-follow-clause-left
 returns-then-follow-clause-left c ref valve gone leaves = absurd (gone.zone (c.if-follow.ensures.zone refl))

@@ -1,6 +1,9 @@
-use Rattle.std.proofs.Common.{◌≡◌, ◌∷◌, [], true, Option, sym, ◌∙◌}
+use Rattle.std.proofs.Common.{◌≡◌, ◌∷◌, [], true, Option, refl, sym, ◌∙◌}
+use Rattle.std.proofs.lemmas.Bool.{false≢true}
 use mathlib.Core.Path.{subst}
 use Rattle.health_index.specs.Regrouping.{IsCome, IsGone, Joins, JoinsGroup, Leaves, LeavesGroup, TellNoOther}
+use Rattle.health_index.specs.Index.{Index, StandsFor}
+use Rattle.health_index.specs.Unleading.{LeavesValve, Unleads}
 use Rattle.health_planning.specs.Looking.{RefersTo}
 use Rattle.health_planning.specs.SetRefRecord.{SetRef}
 use Rattle.health_index.proofs.index.HealthIndex.regroup.Goals as goal
@@ -8,13 +11,40 @@ use Rattle.health_index.proofs.index.HealthIndex.regroup.Goals as goal
 one_same : {x y : SetRef} → x ∷ [] ≡ y ∷ [] → x ≡ y
 one_same e = cc
 
+pub returns-then-leave-clause-left : goal.returns-then-leave-clause-left
+returns-then-leave-clause-left c ref valve gone leaves =
+    let is = subst (λ (o : Option SetRef). IsGone c.args.delta.now o) c.in-Some.is c.one_gone.ensures in
+    let one = one_same (sym is.removed ∙ gone.removed) in
+    let zones = c.args.zones.now.zones in (
+      refl,
+      subst (λ (r : SetRef). Leaves r valve c.args.self.now c.leave.new.self) one
+          (c.if-leave.ensures.left valve (subst (λ (r : SetRef). LeavesGroup zones c.args.self.now.seats c.args.self.now.valves r valve) (sym one) leaves)).1,
+    )
+
+pub returns-in-Some-clause-stands : goal.returns-in-Some-clause-stands
+returns-in-Some-clause-stands c before old reports stands left done =
+    c.unlead.ensures.stands before old reports (subst (StandsFor before old reports) (sym (c.if-leave.ensures.stays refl)) stands) left done
+
 pub returns-in-Some-clause-left : goal.returns-in-Some-clause-left
 returns-in-Some-clause-left c ref valve gone leaves =
     let is = subst (λ (o : Option SetRef). IsGone c.args.delta.now o) c.in-Some.is c.one_gone.ensures in
     let one = one_same (sym is.removed ∙ gone.removed) in
     let zones = c.args.zones.now.zones in
-    subst (λ (r : SetRef). (c.leave.result ≡ true) × Leaves r valve c.args.self.now c.leave.new.self) one
-    (c.leave.ensures.left valve (subst (λ (r : SetRef). LeavesGroup zones c.args.self.now.seats c.args.self.now.valves r valve) (sym one) leaves))
+    absurd (false≢true
+    (c.if-leave.ensures.left valve (subst (λ (r : SetRef). LeavesGroup zones c.args.self.now.seats c.args.self.now.valves r valve) (sym one) leaves)).0)
+
+pub returns-in-Some-clause-unled : goal.returns-in-Some-clause-unled
+returns-in-Some-clause-unled c ref valve gone leaves =
+    let is = subst (λ (o : Option SetRef). IsGone c.args.delta.now o) c.in-Some.is c.one_gone.ensures in
+    let one = one_same (sym is.removed ∙ gone.removed) in
+    let zones = c.args.zones.now.zones in
+    let same = c.if-leave.ensures.stays refl in
+    let u = c.unlead.ensures.unled valve (subst (λ (i : Index). LeavesValve zones i.seats i.valves c.in-Some.set valve) (sym same)
+    (subst (λ (r : SetRef). LeavesValve zones c.args.self.now.seats c.args.self.now.valves r valve) (sym one) leaves)) in (
+      u.0,
+      subst (λ (i : Index). Unleads ref valve i c.unlead.new.self) same
+          (subst (λ (r : SetRef). Unleads r valve c.leave.new.self c.unlead.new.self) one u.1),
+    )
 
 pub returns-in-Some-one_come-clause-joined : goal.returns-in-Some-one_come-clause-joined
 returns-in-Some-one_come-clause-joined c ref named valve come joins names alike few =
