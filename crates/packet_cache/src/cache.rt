@@ -10,7 +10,7 @@ use std::alloc::Global;
 use std::marker::Model;
 
 /// How many places there are, and marks: a power of two.
-const PLACES: usize = 16_384;
+const PLACES: usize = 32_768;
 
 /// A mark of no packet.
 const NEVER: u32 = 3;
@@ -53,7 +53,7 @@ impl Model for PacketCache {
 }
 
 impl PacketCache {
-    /// A cache that keeps nothing. It takes two megabytes, and no more later.
+    /// A cache that keeps nothing. It takes four megabytes, and no more later.
     pub fn new(alloc: Global) -> Result<PacketCache, OutOfMemory>
         ensures { IfOk result KeepsNothing }
     {
@@ -185,7 +185,7 @@ impl PacketCache {
 
 /// The place of a key.
 fn at(key: u64) -> usize {
-    (key % 16_384) as usize
+    (key % 32_768) as usize
 }
 
 /// The mark of a key in a generation, by which this is known.

@@ -6,8 +6,8 @@ use Rattle.packet_cache.proofs.cache.PacketCache.new.Goals as goal
 
 pub invariant_of-result : goal.invariant_of-result
 invariant_of-result c i place is =
-    grind (arith, subst (λ items. AreOfThePast 0 items) (sym c.lay_free.ensures) (free_ones 16384) i place is)
+    grind (arith, subst (λ items. AreOfThePast 0 items) (sym c.lay_free.ensures) (free_ones 32768) i place is)
 
 pub returns : goal.returns
 returns c = subst (λ items. KeepsNothing (kept_at 1 items)) (sym c.lay_free.ensures)
-    (nothing_yet 0 (replicate 16384 free) (free_ones 16384))
+    (nothing_yet 0 (replicate 32768 free) (free_ones 32768))
