@@ -1,4 +1,7 @@
-use Rattle.std.proofs.Common.{◌≡◌, ◌∙◌, ◌∷◌, ap, inl, inr, length, refl, subst, sym}
+use Rattle.std.proofs.Common.{◌≡◌, ◌∙◌, ◌∷◌, ℕ, List, Option, Some, ap, arith, inl, inr, length, refl, subst, sym}
+use Rattle.check_model.specs.declared.checks.Check.{Check}
+use Rattle.check_model.specs.declared.checks.Check.TheVariants.{Endpoint}
+use Rattle.sound_configs.specs.Index.{IsEndpoint}
 use Rattle.check_model.specs.Checks.{check_with}
 use Rattle.config_opening.specs.States.{config_of}
 use Rattle.sound_configs.specs.Configs.{Config}
@@ -39,3 +42,37 @@ returns-clause-cost g c = λ engine cone stands within.
     (λ node there. within node
     (subst (λ (watched : Watched). InCone watched (CheckNode c.args.id) node)
     (sym (ap watched_in its.config ∙ seen zones config engine.reports refl)) there)))
+
+pub returns-clause-reports : goal.returns-clause-reports
+returns-clause-reports g c = λ engine stands.
+    let its = subst (λ (s : State). StandsFor engine s) (sym c.self.view_is) stands in
+    let zones = c.self.inside.kept.config.table.zones in
+    let checks = c.self.inside.kept.config.checks.checks in
+    let here : check_with c.checks.result.now.checks.list c.args.id ≡ check_with checks.list c.args.id =
+    ap (λ table. check_with table.checks.list c.args.id) c.checks.ensures
+    ∙ ap (λ config. check_with config.checks.checks.list c.args.id) c.config.ensures in
+    let found : check_with checks.list c.args.id
+    ≡ Some (Endpoint c.in-Some-Endpoint.field-0-0 c.in-Some-Endpoint.field-0-1 c.in-Some-Endpoint.field-0-2) =
+    sym here ∙ (sym c.in-Some-Endpoint.ensures.check ∙ ap Some c.in-Some-Endpoint.field-0-is) in
+    let same : engine.config.checks.list ≡ checks.list = ap (λ (config : Config). config.checks.list) its.config in (
+      record engine { reports = reported c.args.id c.args.checker c.args.pass ∷ engine.reports },
+      (
+        (
+          c.in-Some-Endpoint.field-0-0,
+          (
+            c.in-Some-Endpoint.field-0-1,
+            c.in-Some-Endpoint.field-0-2,
+            ap (λ (list : List (ℕ × Check)). check_with list c.args.id) same ∙ found,
+          ),
+        ),
+        omega (arith, c.if-checker-ge50.false),
+        refl,
+      ),
+      record {
+        config = its.config;
+        health =
+            c.on_report.ensures.stands zones checks engine.reports its.health
+            (subst (λ (check : Option Check). IsEndpoint check) (sym found) tt);
+        journal = its.journal;
+      },
+    )
