@@ -7,16 +7,15 @@ ghost use Rattle.zone_lookup.specs.Reply.{if_used, told_scope};
 ghost use Rattle.zone_lookup.specs.Seen.{IsSeen};
 ghost use Rattle.dns_message.specs.Whole.{subnet_of};
 
-use crate::asking::Progress;
 use address_text::IpAddress;
 use dns_message::Edns;
 use ecs_option::ClientSubnet;
 use geo_latency::{Latencies, Location, Tables};
-use zone_lookup::{Zones, locates_as_told};
+use zone_lookup::{Seen, Used, Zones, locates_as_told};
 
 /// The client's address: that of the client subnet where its source length is above 0, else the one
 /// from which the packet came.
-pub(crate) fn client_address(edns: &Option<Edns>, peer: IpAddress) -> IpAddress
+pub fn client_address(edns: &Option<Edns>, peer: IpAddress) -> IpAddress
     ensures { result ≡ client_address (subnet_of edns.now) peer }
 {
     let Some(edns) = edns else {
@@ -50,17 +49,18 @@ fn first_four(address: &[u8; 16]) -> [u8; 4]
 
 /// The scope that is told to a query: of the tables and collections that its choices used, where it
 /// tells a subnet of a source length above 0.
-pub(crate) fn told_scope(
+pub fn told_scope(
     zones: &Zones,
     tables: &Tables,
     edns: &Option<Edns>,
     client: IpAddress,
-    progress: &Progress,
+    used: &Used,
+    seen: &Seen,
 ) -> u8
-    requires { IsSeen tables.now client progress.now.seen }
+    requires { IsSeen tables.now client seen.now }
     ensures { result
         ≡ told_scope (subnet_of edns.now)
-        (client_with tables.now zones.now.collections.list client) progress.now.used }
+        (client_with tables.now zones.now.collections.list client) used.now }
 {
     let Some(edns) = edns else {
         return 0;
@@ -71,8 +71,6 @@ pub(crate) fn told_scope(
     if subnet.source == 0 {
         return 0;
     }
-    let used = &progress.used;
-    let seen = &progress.seen;
     let places = places_scope(tables, client, used.places, seen.places);
     let latencies = latencies_scope(tables, client, used.latencies, seen.latencies);
     places.max(latencies.max(used.blocks))

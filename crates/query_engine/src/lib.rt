@@ -9,5 +9,6 @@ mod ends;
 mod replies;
 mod steps;
 
+pub use client::{client_address, told_scope};
 pub use replies::answer;
 pub use zone_lookup::{HealthView, Scratch, SetRef, Zones};

@@ -222,6 +222,13 @@ fn answer_in_zone<V: HealthView>(
         reply,
         scratch,
     );
-    let scope = told_scope(zones, tables, &query.edns, client, &progress);
+    let scope = told_scope(
+        zones,
+        tables,
+        &query.edns,
+        client,
+        &progress.used,
+        &progress.seen,
+    );
     reply.finish(end.aa, end.rcode, limit_of(&query.edns), scope)
 }

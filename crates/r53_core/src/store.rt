@@ -356,10 +356,11 @@ impl Store {
         requires room { 4096 ≤ reply.old.room }
         ensures answers { IfSome result (λ n. (engine : Engine) → StandsFor engine self.old
             → AnswersAll engine.config.zones engine.config.collections.list
-            (is_healthy engine.config engine.reports) packet.now reply.new.bytes) }
+            (is_healthy engine.config engine.reports) tables.now packet.now reply.new.bytes) }
         ensures settled { IfSome result (λ n. (engine : Engine) → StandsFor engine self.old
             → IsSettled engine.config.zones engine.config.collections.list
-            (is_healthy engine.config engine.reports) (drop 2 packet.now) (drop 2 reply.new.bytes)) }
+            (is_healthy engine.config engine.reports) tables.now (drop 2 packet.now)
+            (drop 2 reply.new.bytes)) }
         ensures same { self.new ≡ self.old }
         ensures length { IfSome result (λ n. n ≡ length reply.new.bytes) }
         ensures room { reply.new.room ≡ reply.old.room }

@@ -8,6 +8,7 @@ use Rattle.check_model.specs.Checks.{check_with}
 use Rattle.check_model.specs.declared.checks.Check.{Check}
 use Rattle.check_model.specs.declared.checks.Check.TheVariants.{Endpoint}
 use Rattle.config_model.specs.Configs.{Config}
+use Rattle.geo_latency.specs.declared.tables.Tables.{Tables}
 use Rattle.health_model.specs.Healthy.{Watched, healthy, healthy_within, sets_of}
 use Rattle.health_model.specs.Nodes.{CheckNode, GroupNode, Node, SetNode}
 use Rattle.health_model.specs.Statuses.{Report, none_healthy, passing, status, status_within, value_there}
@@ -108,13 +109,13 @@ some_same : {X : Type 0} {x y : X} → Some x ≡ Some y → x ≡ y
 some_same e = cc
 
 -- What is kept stays settled where the status that is told stays.
-pub settled_still : (engine : Engine) (report : Report) (replies : List (Option Kept))
+pub settled_still : (engine : Engine) (tables : Tables) (report : Report) (replies : List (Option Kept))
     → IsEndpoint engine.config report.check → (before after : Option (Bool × ℕ))
     → before ≡ status_told engine.config.checks.list engine.reports report.check
     → after ≡ status_told engine.config.checks.list (report ∷ engine.reports) report.check
     → option_map (λ (told : Bool × ℕ). told.0) before ≡ option_map (λ (told : Bool × ℕ). told.0) after
-    → AreSettled engine replies → AreSettled (record engine { reports = report ∷ engine.reports }) replies
-settled_still engine report replies endpoint before after old new same are =
+    → AreSettled engine tables replies → AreSettled (record engine { reports = report ∷ engine.reports }) tables replies
+settled_still engine tables report replies endpoint before after old new same are =
     let checks = engine.config.checks.list in
     let told = λ (reports : List Report). status_in checks reports report.check endpoint.0 endpoint.1.0 endpoint.1.1
     endpoint.1.2 in
@@ -123,5 +124,5 @@ settled_still engine report replies endpoint before after old new same are =
     ∙ (sym same ∙ (ap (λ (o : Option (Bool × ℕ)). option_map (λ (t : Bool × ℕ). t.0) o) old
     ∙ told engine.reports)))) in
     subst (λ (healthy : ℕ → SetKey → Bool). (kept : Kept) → Keeps replies kept
-    → IsSettled engine.config.zones engine.config.collections.list healthy kept.packet kept.reply)
+    → IsSettled engine.config.zones engine.config.collections.list healthy tables kept.packet kept.reply)
     (sym (health_kept engine.config report engine.reports endpoint its)) are

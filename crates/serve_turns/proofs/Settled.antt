@@ -14,9 +14,9 @@ use Rattle.serve_turns.specs.Settled.{AreSettled, Serves}
 
 -- What answers whoever asks answers the one who does.
 pub by_all : (engine : Engine) (tables : Tables) (asker : Asker) (packet octets : List ℕ)
-    → AnswersAll engine.config.zones engine.config.collections.list (is_healthy engine.config engine.reports) packet octets
+    → AnswersAll engine.config.zones engine.config.collections.list (is_healthy engine.config engine.reports) tables packet octets
     → QueryGives engine tables asker packet (Some octets)
-by_all engine tables asker packet octets all = all tables asker
+by_all engine tables asker packet octets all = all asker
 
 take_two : (n : ℕ) (xs : List ℕ) → 2 ≤ n → take 2 (take n xs) ≡ take 2 xs
 take_two zero xs many = absurd (omega (arith, many))
@@ -32,40 +32,40 @@ two_left (suc (suc n)) [] many within = absurd (omega (arith, within))
 two_left (suc (suc n)) (x ∷ []) many within = absurd (omega (arith, within))
 two_left (suc (suc n)) (x ∷ y ∷ xs) many within = omega arith
 
-module _ (engine : Engine) where
+module _ (engine : Engine) (tables : Tables) where
   -- a packet whose reply is kept, which stands in its place
-  pub answered_by : (replies : List (Option Kept)) → AreSettled engine replies → (packet after : List ℕ)
+  pub answered_by : (replies : List (Option Kept)) → AreSettled engine tables replies → (packet after : List ℕ)
       (len size : ℕ) (reply : List ℕ) → 2 ≤ len → len ≤ length packet → AreOctets (take len packet)
       → Keeps replies (record { packet = drop 2 (take len packet); reply = reply })
       → take size after ≡ take 2 packet ++ reply
       → AnswersAll engine.config.zones engine.config.collections.list
-      (is_healthy engine.config engine.reports) (take len packet) (take size after)
+      (is_healthy engine.config engine.reports) tables (take len packet) (take size after)
   answered_by replies are packet after len size reply many within octets keeps is =
       subst (λ (o : List ℕ). AnswersAll engine.config.zones engine.config.collections.list
-      (is_healthy engine.config engine.reports) (take len packet) o)
+      (is_healthy engine.config engine.reports) tables (take len packet) o)
       (ap (λ (l : List ℕ). l ++ reply) (take_two len packet many) ∙ sym is)
       (are (record { packet = drop 2 (take len packet); reply = reply }) keeps (take len packet) octets
       (two_left len packet many within) refl)
 
   -- one more is kept
-  pub with_one : (old new : List (Option Kept)) (packet reply : List ℕ) → AreSettled engine old
-      → IsSettled engine.config.zones engine.config.collections.list (is_healthy engine.config engine.reports) (drop 2 packet) (drop 2 reply)
-      → KeepsNoMoreBut (kept_of packet reply) old new → AreSettled engine new
+  pub with_one : (old new : List (Option Kept)) (packet reply : List ℕ) → AreSettled engine tables old
+      → IsSettled engine.config.zones engine.config.collections.list (is_healthy engine.config engine.reports) tables (drop 2 packet) (drop 2 reply)
+      → KeepsNoMoreBut (kept_of packet reply) old new → AreSettled engine tables new
   with_one old new packet reply are settled more kept keeps = by (more kept keeps)
     where
       by : Keeps old kept ⊎ (kept ≡ kept_of packet reply)
-          → IsSettled engine.config.zones engine.config.collections.list (is_healthy engine.config engine.reports) kept.packet kept.reply
+          → IsSettled engine.config.zones engine.config.collections.list (is_healthy engine.config engine.reports) tables kept.packet kept.reply
       by (inl before) = are kept before
       by (inr is) =
-          subst (λ (k : Kept). IsSettled engine.config.zones engine.config.collections.list (is_healthy engine.config engine.reports) k.packet k.reply)
+          subst (λ (k : Kept). IsSettled engine.config.zones engine.config.collections.list (is_healthy engine.config engine.reports) tables k.packet k.reply)
           (sym is) settled
 
 -- one store and one list of kept replies
-pub served_same : (engine : Engine) (old new : Store) (replies others : List (Option Kept)) → new ≡ old
-    → others ≡ replies → Serves engine old replies → Serves engine new others
-served_same engine old new replies others same kept its = record {
+pub served_same : (engine : Engine) (tables : Tables) (old new : Store) (replies others : List (Option Kept)) → new ≡ old
+    → others ≡ replies → Serves engine tables old replies → Serves engine tables new others
+served_same engine tables old new replies others same kept its = record {
   stands = subst (λ (s : Store). StandsFor engine s) (sym same) its.stands;
-  settled = subst (λ (r : List (Option Kept)). AreSettled engine r) (sym kept) its.settled;
+  settled = subst (λ (r : List (Option Kept)). AreSettled engine tables r) (sym kept) its.settled;
 }
 
 -- what is told of a reply, where there is one, and where there is none

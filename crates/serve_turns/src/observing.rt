@@ -1,6 +1,7 @@
 //! Reports of health checkers.
 
 ghost use Rattle.std.specs.Prelude.{◌≡◌, ◌<◌, IsTrue, option_map};
+ghost use Rattle.geo_latency.specs.declared.tables.Tables.{Tables};
 ghost use Rattle.session_model.specs.Engine.{Engine, ReportSteps};
 ghost use Rattle.r53_core.specs.Stores.{StandsFor};
 ghost use Rattle.serve_turns.specs.Settled.{Serves};
@@ -15,8 +16,8 @@ use std::sync::ledger::{Blank, Ledger};
 /// Takes a datagram of the report port, and tells whether it is a report that counts. Where the status of its check
 /// changes, no reply is kept any more.
 pub(crate) fn observe(store: &mut Store, datagram: &[u8], replies: &mut PacketCache) -> bool
-    ensures taken { (engine : Engine) → Serves engine store.old replies.old
-        → IsReported result engine datagram.now (λ after. Serves after store.new replies.new) }
+    ensures taken { (engine : Engine) (tables : Tables) → Serves engine tables store.old replies.old
+        → IsReported result engine datagram.now (λ after. Serves after tables store.new replies.new) }
     ensures reports { GoesOn store.old store.new }
     ensures kept { store.new.kept ≡ store.old.kept }
 {

@@ -40,13 +40,13 @@ pub(crate) fn reply_to(
 ) -> Told
     requires len { len ≤ length packet.old }
     requires room { 4096 ≤ reply.old.room }
-    ensures gives { (engine : Engine) → Serves engine store.old replies.old
+    ensures gives { (engine : Engine) → Serves engine tables.now store.old replies.old
         → QueryGives engine tables.now (record { peer = peer; words = words.now }) (take len packet.old)
         (octets_of result packet.new reply.new.bytes) }
     ensures there { IsThere result packet.new }
     ensures same { store.new ≡ store.old }
-    ensures serves { (engine : Engine) → Serves engine store.old replies.old
-        → Serves engine store.new replies.new }
+    ensures serves { (engine : Engine) → Serves engine tables.now store.old replies.old
+        → Serves engine tables.now store.new replies.new }
     ensures packet { length packet.new ≡ length packet.old }
     ensures room { reply.new.room ≡ reply.old.room }
 {
@@ -104,8 +104,8 @@ fn made(
     ensures none { result ≡ None → (engine : Engine) → StandsFor engine store.old
         → QueryGives engine tables.now (record { peer = peer; words = words.now }) packet.now None }
     ensures same { store.new ≡ store.old }
-    ensures serves { (engine : Engine) → Serves engine store.old replies.old
-        → Serves engine store.new replies.new }
+    ensures serves { (engine : Engine) → Serves engine tables.now store.old replies.old
+        → Serves engine tables.now store.new replies.new }
     ensures room { reply.new.room ≡ reply.old.room }
 {
     if !replies.note(key) {
@@ -131,10 +131,10 @@ fn settled(
     requires room { 4096 ≤ reply.old.room }
     ensures answers { IfSome result (λ n. (engine : Engine) → StandsFor engine store.old
         → AnswersAll engine.config.zones engine.config.collections.list
-        (is_healthy engine.config engine.reports) packet.now reply.new.bytes) }
+        (is_healthy engine.config engine.reports) tables.now packet.now reply.new.bytes) }
     ensures same { store.new ≡ store.old }
-    ensures serves { (engine : Engine) → Serves engine store.old replies.old
-        → Serves engine store.new replies.new }
+    ensures serves { (engine : Engine) → Serves engine tables.now store.old replies.old
+        → Serves engine tables.now store.new replies.new }
     ensures room { reply.new.room ≡ reply.old.room }
 {
     match store.settle(tables, packet, reply) {

@@ -46,14 +46,14 @@ pub(crate) fn take_turn<L: Link, R: Rng>(
     requires room { 4096 ≤ reply.old.room }
     requires few { AreWithin 4294967294 turns.old }
     ensures leaves { (before : List Datagram) (old : TurnsOutcome) (arrivals : List Incoming)
-        → Serves old.engine store.old replies.old
+        → Serves old.engine tables.now store.old replies.old
         → IsAsDefined before old arrivals (record {
           words = R.stream words.old;
           turns = turns.old;
           coming = L.coming link.old;
           sent = L.sent link.old;
         })
-        → TurnLeaves result tables.now before old arrivals (λ engine. Serves engine store.new replies.new)
+        → TurnLeaves result tables.now before old arrivals (λ engine. Serves engine tables.now store.new replies.new)
         (record {
           words = R.stream words.new;
           turns = turns.new;
@@ -104,7 +104,7 @@ fn answer<L: Link, R: Rng>(
     requires room { 4096 ≤ reply.old.room }
     requires few { AreWithin 4294967294 turns.old }
     ensures leaves { (before : List Datagram) (old : TurnsOutcome) (arrivals : List Incoming)
-        → Serves old.engine store.old replies.old
+        → Serves old.engine tables.now store.old replies.old
         → IsAsDefined before old arrivals (record {
           words = R.stream words.old;
           turns = turns.old;
@@ -112,7 +112,7 @@ fn answer<L: Link, R: Rng>(
           sent = L.sent link.old;
         })
         → PacketLeaves result tables.now before peer (take len packet.old) old arrivals
-        (λ engine. Serves engine store.new replies.new)
+        (λ engine. Serves engine tables.now store.new replies.new)
         (record {
           words = R.stream words.new;
           turns = turns.new;

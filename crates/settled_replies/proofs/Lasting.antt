@@ -13,6 +13,8 @@ use Rattle.record_set.specs.declared.sets.RecordSet.{RecordSet}
 use Rattle.record_set.specs.declared.sets.SetKey.{SetKey}
 use Rattle.zone_lookup.specs.Laws.{NamesExist}
 use Rattle.zone_model.specs.Hosted.{HostedZone}
+use Rattle.geo_latency.specs.declared.tables.Tables.{Tables}
+use Rattle.zone_lookup.specs.Reply.{Served}
 use Rattle.settled_replies.specs.Plain.{IsPlain, plain_reply}
 use Rattle.settled_replies.specs.Settled.{AnswersAll, IsSettled}
 use Rattle.settled_replies.proofs.Alone.{reply_is}
@@ -32,20 +34,22 @@ pub if_some : {P Q : Type 0} (found : Option ℕ) → (P → Q) → IfSome found
 if_some None on its = tt
 if_some (Some n) on its = on its
 
+pub map_some : {P Q : ℕ → Type 0} (found : Option ℕ) → ((n : ℕ) → P n → Q n) → IfSome found P → IfSome found Q
+map_some None on its = tt
+map_some (Some n) on its = on n its
+
 module _ (names : NamesExist) (zones : List HostedZone) (collections : List (ℕ × Collection))
-    (healthy : (zone : ℕ) → SetKey → Bool) where
-  pub answers_all : (packet : List ℕ) (query : Query) (set : RecordSet) (bytes : List ℕ)
-      → Judges packet (read.Query query) → IsPlain healthy zones query set
-      → bytes ≡ octets_within (plain_reply query set) (limit_of query.edns) → AnswersAll zones collections healthy packet bytes
-  answers_all packet query set bytes judges plain is tables asker = record {
+    (healthy : (zone : ℕ) → SetKey → Bool) (tables : Tables) where
+  abbrev served : Served
+  served = record { zones = zones; collections = collections; healthy = healthy; tables = tables }
+
+  pub answers_all : (packet : List ℕ) (query : Query) (set : RecordSet) (scope : ℕ) (bytes : List ℕ)
+      → Judges packet (read.Query query) → IsPlain served query set scope
+      → bytes ≡ octets_within (plain_reply query set scope) (limit_of query.edns) → AnswersAll zones collections healthy tables packet bytes
+  answers_all packet query set scope bytes judges plain is asker = record {
     judged = read.Query query;
     judges = judges;
-    answered = ap Some (is ∙ sym (ap (λ (m : Message). octets_within m (limit_of query.edns)) (reply_is names (record {
-      zones = zones;
-      collections = collections;
-      healthy = healthy;
-      tables = tables;
-    }) asker query set plain)));
+    answered = ap Some (is ∙ sym (ap (λ (m : Message). octets_within m (limit_of query.edns)) (reply_is names served asker query set scope plain)));
   }
 
   -- the octets with another ID
@@ -57,17 +61,17 @@ module _ (names : NamesExist) (zones : List HostedZone) (collections : List (ℕ
       ∙ (ap (λ (x : ℕ). x ∷ ((c * 256 + d) % 256) ∷ drop 2 (octets_within m limit)) (high_of c d lc ld)
       ∙ ap (λ (x : ℕ). c ∷ x ∷ drop 2 (octets_within m limit)) (low_of c d lc ld)))
 
-  pub settled_all : (packet : List ℕ) (query : Query) (set : RecordSet) (bytes : List ℕ)
-      → Judges packet (read.Query query) → IsPlain healthy zones query set
-      → bytes ≡ octets_within (plain_reply query set) (limit_of query.edns)
-      → IsSettled zones collections healthy (drop 2 packet) (drop 2 bytes)
-  settled_all [] query set bytes judges plain is = absurd (judges.0.0 (inl (omega arith)))
-  settled_all (a ∷ []) query set bytes judges plain is = absurd (judges.0.0 (inl (omega arith)))
-  settled_all (a ∷ b ∷ t) query set bytes judges plain is = by
+  pub settled_all : (packet : List ℕ) (query : Query) (set : RecordSet) (scope : ℕ) (bytes : List ℕ)
+      → Judges packet (read.Query query) → IsPlain served query set scope
+      → bytes ≡ octets_within (plain_reply query set scope) (limit_of query.edns)
+      → IsSettled zones collections healthy tables (drop 2 packet) (drop 2 bytes)
+  settled_all [] query set scope bytes judges plain is = absurd (judges.0.0 (inl (omega arith)))
+  settled_all (a ∷ []) query set scope bytes judges plain is = absurd (judges.0.0 (inl (omega arith)))
+  settled_all (a ∷ b ∷ t) query set scope bytes judges plain is = by
     where
-      one : (c d : ℕ) → c < 256 → d < 256 → AnswersAll zones collections healthy (c ∷ d ∷ t) (c ∷ d ∷ drop 2 bytes)
+      one : (c d : ℕ) → c < 256 → d < 256 → AnswersAll zones collections healthy tables (c ∷ d ∷ t) (c ∷ d ∷ drop 2 bytes)
       one c d lc ld =
-          answers_all (c ∷ d ∷ t) (record query { id = id_of (c ∷ d ∷ t) }) set (c ∷ d ∷ drop 2 bytes)
+          answers_all (c ∷ d ∷ t) (record query { id = id_of (c ∷ d ∷ t) }) set scope (c ∷ d ∷ drop 2 bytes)
           (judged t a b c d query judges)
           (record {
             heard = plain.heard;
@@ -75,12 +79,12 @@ module _ (names : NamesExist) (zones : List HostedZone) (collections : List (ℕ
             found = plain.found;
             alone = plain.alone;
           })
-          (same_id (plain_reply query set) bytes (limit_of query.edns) c d lc ld is)
+          (same_id (plain_reply query set scope) bytes (limit_of query.edns) c d lc ld is)
 
       by : (whole : List ℕ) → AreOctets whole → 2 ≤ length whole → drop 2 whole ≡ t
-          → AnswersAll zones collections healthy whole (take 2 whole ++ drop 2 bytes)
+          → AnswersAll zones collections healthy tables whole (take 2 whole ++ drop 2 bytes)
       by [] octets many same = absurd (omega (arith, many))
       by (c ∷ []) octets many same = absurd (omega (arith, many))
       by (c ∷ d ∷ s) octets many same =
-          subst (λ (behind : List ℕ). AnswersAll zones collections healthy (c ∷ d ∷ behind) (c ∷ d ∷ drop 2 bytes)) (sym same)
+          subst (λ (behind : List ℕ). AnswersAll zones collections healthy tables (c ∷ d ∷ behind) (c ∷ d ∷ drop 2 bytes)) (sym same)
           (one c d octets.0 octets.1.0)

@@ -1,58 +1,54 @@
 //! Whether one set answers a query alone, whoever asks.
 
-ghost use Rattle.std.specs.Prelude.{◌≡◌, ◌<◌, ◌∷◌, List, Some, Bool, ℕ, IsTrue, slice_get};
+ghost use Rattle.std.specs.Prelude.{◌≡◌, ◌<◌, ◌∷◌, List, Some, Bool, ℕ, IfSome, IsTrue, slice_get};
+ghost use Rattle.address_text.specs.declared.address.IpAddress.{IpAddress};
+ghost use Rattle.dns_message.specs.Whole.{subnet_of};
+ghost use Rattle.query_engine.specs.Asking.{served_by};
 ghost use Rattle.query_engine.specs.Groups.{sets_in};
 ghost use Rattle.query_engine.specs.Looking.{IsGroupNow};
-ghost use Rattle.query_engine.specs.Reply.{is_refused};
-ghost use Rattle.query_engine.specs.Served.{IsFound, hosted_of, zone_of};
+ghost use Rattle.query_engine.specs.Reply.{is_refused, told_scope};
+ghost use Rattle.query_engine.specs.Served.{IsFound, zone_of};
 ghost use Rattle.record_set.specs.declared.sets.RecordSet.{RecordSet};
 ghost use Rattle.record_set.specs.declared.sets.SetKey.{SetKey};
 ghost use Rattle.reply_records.specs.Groups.{Agrees, FewInGroups, sets_in_zone};
 ghost use Rattle.reply_records.specs.Holding.{IsHolding};
 ghost use Rattle.set_octets.specs.Octets.{HasSpelling};
-ghost use Rattle.settled_replies.specs.Plain.{ComesTo, IsAlone, IsFailover, IsOne, IsPlain};
+ghost use Rattle.settled_replies.specs.Plain.{ComesTo, IsAlone, IsOne, IsPlain, IsWordless};
+ghost use Rattle.zone_lookup.specs.Clients.{client_address, client_with};
 ghost use Rattle.zone_lookup.specs.Served.{AreServed};
+ghost use Rattle.zone_lookup.specs.UsedRecord.{Used};
 
 use address_text::IpAddress;
-use dns_message::Query;
+use dns_message::{Edns, Query};
 use dns_name::Name;
 use geo_latency::Tables;
-use query_engine::{HealthView, Scratch, Zones};
+use query_engine::{HealthView, Scratch, Zones, client_address, told_scope};
 use reply_records::{Selected, descend_held, first_answers};
 use routing::Routing;
 use zone_lookup::{
     Found, Group, Seen, Used, cut_above, find_asked, find_zone, known_few, zones_are_longest,
 };
 
-/// Whether a query is answered by one set alone, whoever asks, which is held then.
-pub(crate) fn is_plain<V: HealthView>(
+/// The scope that is told where a query is answered by one set alone, whoever asks, which is held then.
+pub(crate) fn plain_scope<V: HealthView>(
     zones: &Zones,
     view: &V,
     tables: &Tables,
     query: &Query,
     scratch: &mut Scratch,
-) -> bool
+) -> Option<u8>
     requires served { AreServed zones.now.zones }
-    ensures held { IsTrue result → IsHolding scratch.new }
-    ensures plain { IsTrue result → (set : RecordSet) × (scratch.new ≡ Some set)
+    ensures held { IfSome result (λ scope. IsHolding scratch.new) }
+    ensures plain { IfSome result (λ scope. (set : RecordSet) × (scratch.new ≡ Some set)
         × ((healthy : (zone : ℕ) → SetKey → Bool) → Agrees zones.now.zones (V.test view.now) healthy
-        → IsPlain healthy (hosted_of zones.now.zones) query.now set) }
+        → IsPlain (served_by zones.now.zones zones.now.collections.list healthy tables.now) query.now set scope)) }
 {
     if is_refused(query) {
-        return false;
+        return None;
     }
     match find_zone(zones, &query.name) {
-        None => false,
-        Some(found) => is_alone_in(
-            zones,
-            view,
-            tables,
-            found.0,
-            found.1,
-            &query.name,
-            query.qtype,
-            scratch,
-        ),
+        None => None,
+        Some(found) => scope_in(zones, view, tables, found.0, found.1, query, scratch),
     }
 }
 
@@ -64,82 +60,152 @@ fn is_refused(query: &Query) -> bool
 }
 
 /// The same in the zone that holds the name.
-fn is_alone_in<V: HealthView>(
+fn scope_in<V: HealthView>(
     zones: &Zones,
     view: &V,
     tables: &Tables,
     zone: u32,
     apex: &Name,
-    name: &Name,
-    qtype: u16,
+    query: &Query,
     scratch: &mut Scratch,
-) -> bool
+) -> Option<u8>
     requires served { AreServed zones.now.zones }
-    requires found { IsFound zones.now.zones name.now zone apex.now }
-    ensures held { IsTrue result → IsHolding scratch.new }
-    ensures alone { IsTrue result → (set : RecordSet) × (scratch.new ≡ Some set)
+    requires found { IsFound zones.now.zones query.now.name zone apex.now }
+    ensures held { IfSome result (λ scope. IsHolding scratch.new) }
+    ensures alone { IfSome result (λ scope. (set : RecordSet) × (scratch.new ≡ Some set)
         × ((healthy : (zone : ℕ) → SetKey → Bool) → Agrees zones.now.zones (V.test view.now) healthy
-        → IsAlone (healthy zone) (zone_of zones.now.zones zone apex.now) name.now qtype set) }
+        → IsAlone (healthy zone)
+        (λ peer. client_with tables.now zones.now.collections.list (client_address (subnet_of query.now.edns) peer))
+        (told_scope (subnet_of query.now.edns)) (zone_of zones.now.zones zone apex.now) query.now.name query.now.qtype
+        set scope)) }
 {
     zones_are_longest();
     known_few(zones, zone, apex);
-    let Found::Sets(group) = find_asked(zones, zone, name, qtype) else {
-        return false;
+    let Found::Sets(group) = find_asked(zones, zone, &query.name, query.qtype) else {
+        return None;
     };
-    match cut_above(zones, zone, apex, name) {
-        Some(_) => false,
-        None => comes_to_one(zones, view, tables, group, scratch),
+    match cut_above(zones, zone, apex, &query.name) {
+        Some(_) => None,
+        None => scope_of_one(zones, view, tables, &query.edns, group, scratch),
     }
 }
 
-/// Whether a group comes to one set alone, whoever asks; it is held then.
-fn comes_to_one<V: HealthView>(
+/// The scope where a group comes to one set alone, whoever asks; it is held then.
+fn scope_of_one<V: HealthView>(
     zones: &Zones,
     view: &V,
     tables: &Tables,
+    edns: &Option<Edns>,
     group: Group,
     scratch: &mut Scratch,
-) -> bool
+) -> Option<u8>
     requires group { IsGroupNow zones.now.zones group }
     requires some { 0 < group.length }
     requires few { FewInGroups (sets_in_zone zones.now.zones group.zone) }
     ensures front { (first : RecordSet) × (slice_get (sets_in zones.now.zones group) 0 ≡ Some first) }
-    ensures held { IsTrue result → IsHolding scratch.new }
-    ensures comes { IsTrue result → (set : RecordSet) × (scratch.new ≡ Some set)
+    ensures held { IfSome result (λ scope. IsHolding scratch.new) }
+    ensures comes { IfSome result (λ scope. (set : RecordSet) × (scratch.new ≡ Some set)
         × ((healthy : (zone : ℕ) → SetKey → Bool) → Agrees zones.now.zones (V.test view.now) healthy
-        → ComesTo (healthy group.zone) (sets_in_zone zones.now.zones group.zone)
-        (sets_in zones.now.zones group) set) }
+        → (peer : IpAddress) → (used : Used)
+        × (ComesTo (healthy group.zone)
+        (client_with tables.now zones.now.collections.list (client_address (subnet_of edns.now) peer))
+        (sets_in_zone zones.now.zones group.zone) (sets_in zones.now.zones group) set used
+        × (told_scope (subnet_of edns.now)
+        (client_with tables.now zones.now.collections.list (client_address (subnet_of edns.now) peer)) used ≡ scope)))) }
 {
     if first_answers(zones, group, scratch) {
-        return true;
+        return Some(0);
     }
     match scratch.routing() {
-        Routing::Failover(_, _) => fails_over(zones, view, tables, group, scratch),
-        _ => false,
+        Routing::Failover(_, _) => {
+            let nobody = IpAddress::V4([0; 4]);
+            match scope_for(zones, view, tables, edns, nobody, group, scratch) {
+                None => None,
+                Some(_) => Some(0),
+            }
+        }
+        Routing::Geolocation(_, _) => scope_for_told(zones, view, tables, edns, group, scratch),
+        Routing::Latency(_, _) => scope_for_told(zones, view, tables, edns, group, scratch),
+        Routing::Cidr(_, _, _) => scope_for_told(zones, view, tables, edns, group, scratch),
+        _ => None,
     }
 }
 
-/// The same of a group whose first set, which is held, has a role in a failover: what is chosen is told by health alone.
-/// It comes to one set alone where that is no alias, so that one choice was made.
-fn fails_over<V: HealthView>(
+/// The same of a group whose first set, which is held, has a policy that uses no word, where the query tells a subnet
+/// of the client, so that the address from which it came doesn't matter.
+fn scope_for_told<V: HealthView>(
     zones: &Zones,
     view: &V,
     tables: &Tables,
+    edns: &Option<Edns>,
     group: Group,
     scratch: &mut Scratch,
-) -> bool
+) -> Option<u8>
     requires group { IsGroupNow zones.now.zones group }
     requires some { 0 < group.length }
     requires few { FewInGroups (sets_in_zone zones.now.zones group.zone) }
     requires first { (set : RecordSet)
         × (slice_get (sets_in zones.now.zones group) 0 ≡ Some set)
         × (scratch.old ≡ Some set) × HasSpelling set }
-    requires failover { (set : RecordSet) → scratch.old ≡ Some set → IsFailover set.routing }
-    ensures held { IsTrue result → IsHolding scratch.new }
-    ensures comes { IsTrue result → (set : RecordSet) × (scratch.new ≡ Some set)
+    requires wordless { (set : RecordSet) → scratch.old ≡ Some set → IsWordless set.routing }
+    ensures held { IfSome result (λ scope. IsHolding scratch.new) }
+    ensures comes { IfSome result (λ scope. (set : RecordSet) × (scratch.new ≡ Some set)
         × ((healthy : (zone : ℕ) → SetKey → Bool) → Agrees zones.now.zones (V.test view.now) healthy
-        → ComesTo (healthy group.zone) (sets_in_zone zones.now.zones group.zone)
-        (sets_in zones.now.zones group) set) }
+        → (peer : IpAddress) → (used : Used)
+        × (ComesTo (healthy group.zone)
+        (client_with tables.now zones.now.collections.list (client_address (subnet_of edns.now) peer))
+        (sets_in_zone zones.now.zones group.zone) (sets_in zones.now.zones group) set used
+        × (told_scope (subnet_of edns.now)
+        (client_with tables.now zones.now.collections.list (client_address (subnet_of edns.now) peer)) used ≡ scope)))) }
+{
+    match told_client(edns) {
+        None => None,
+        Some(client) => scope_for(zones, view, tables, edns, client, group, scratch),
+    }
+}
+
+/// The client's address, where the query tells a subnet of it, whatever address it came from.
+fn told_client(edns: &Option<Edns>) -> Option<IpAddress>
+    ensures { IfSome result (λ client. (peer : IpAddress) → client_address (subnet_of edns.now) peer ≡ client) }
+{
+    let Some(told) = edns else {
+        return None;
+    };
+    let Some(subnet) = told.subnet else {
+        return None;
+    };
+    if subnet.source == 0 {
+        return None;
+    }
+    Some(client_address(edns, IpAddress::V4([0; 4])))
+}
+
+/// The scope that a client is told where a group, whose first set is held, comes to one set alone for it: one choice tells
+/// it, by a policy that uses no word, and it is no alias then.
+fn scope_for<V: HealthView>(
+    zones: &Zones,
+    view: &V,
+    tables: &Tables,
+    edns: &Option<Edns>,
+    client: IpAddress,
+    group: Group,
+    scratch: &mut Scratch,
+) -> Option<u8>
+    requires group { IsGroupNow zones.now.zones group }
+    requires some { 0 < group.length }
+    requires few { FewInGroups (sets_in_zone zones.now.zones group.zone) }
+    requires first { (set : RecordSet)
+        × (slice_get (sets_in zones.now.zones group) 0 ≡ Some set)
+        × (scratch.old ≡ Some set) × HasSpelling set }
+    requires wordless { (set : RecordSet) → scratch.old ≡ Some set → IsWordless set.routing }
+    ensures held { IfSome result (λ scope. IsHolding scratch.new) }
+    ensures comes { IfSome result (λ scope. (set : RecordSet) × (scratch.new ≡ Some set)
+        × ((healthy : (zone : ℕ) → SetKey → Bool) → Agrees zones.now.zones (V.test view.now) healthy
+        → (used : Used)
+        × (ComesTo (healthy group.zone) (client_with tables.now zones.now.collections.list client)
+        (sets_in_zone zones.now.zones group.zone) (sets_in zones.now.zones group) set used
+        × (told_scope (subnet_of edns.now) (client_with tables.now zones.now.collections.list client) used
+        ≡ scope)))) }
 {
     let mut choices = 0;
     let mut used = Used {
@@ -156,14 +222,17 @@ fn fails_over<V: HealthView>(
         group,
         view,
         tables,
-        IpAddress::V4([0; 4]),
+        client,
         &[0; 8],
         &mut choices,
         &mut used,
         &mut seen,
         scratch,
     );
-    choices == 1 && is_one(&selected)
+    if choices != 1 || !is_one(&selected) {
+        return None;
+    }
+    Some(told_scope(zones, tables, edns, client, &used, &seen))
 }
 
 /// Whether one set is selected.

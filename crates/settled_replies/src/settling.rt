@@ -4,6 +4,7 @@ ghost use Rattle.std.specs.Prelude.{◌≡◌, ◌≤◌, ℕ, Bool, None, Some,
 ghost use Rattle.dns_message.specs.Whole.{IsWhole};
 ghost use Rattle.dns_wire.specs.Limit.{limit_of as most_of};
 ghost use Rattle.dns_wire.specs.Message.{octets_within};
+ghost use Rattle.query_engine.specs.Asking.{served_by};
 ghost use Rattle.query_engine.specs.Served.{hosted_of};
 ghost use Rattle.record_set.specs.declared.sets.RecordSet.{RecordSet};
 ghost use Rattle.record_set.specs.declared.sets.SetKey.{SetKey};
@@ -12,7 +13,7 @@ ghost use Rattle.settled_replies.specs.Plain.{IsPlain, plain_reply};
 ghost use Rattle.settled_replies.specs.Settled.{AnswersAll, IsSettled};
 ghost use Rattle.zone_lookup.specs.Served.{AreServed};
 
-use crate::plain::is_plain;
+use crate::plain::plain_scope;
 use dns_message::{Query, Verdict, blank_query, read_over};
 use dns_wire::{Reply, limit_of};
 use geo_latency::Tables;
@@ -21,7 +22,8 @@ use reply_records::write_first;
 use zone_lookup::names_exist;
 
 /// Makes the reply to a packet where it is the same whoever asks, as long as no set becomes healthy or unhealthy, and
-/// says how many octets it has: where one set answers a name alone. None else, though of other packets the reply may be
+/// says how many octets it has: where one set answers a name alone, that a failover chooses perhaps, or a place, a latency
+/// or a block of the subnet that the query tells. None else, though of other packets the reply may be
 /// the same for all, too. It takes no memory.
 pub fn settle<V: HealthView>(
     zones: &Zones,
@@ -37,12 +39,13 @@ pub fn settle<V: HealthView>(
     // It is by each test of sets with which the view agrees.
     ensures answers { IfSome result (λ n. (healthy : (zone : ℕ) → SetKey → Bool)
         → Agrees zones.now.zones (V.test view.now) healthy
-        → AnswersAll (hosted_of zones.now.zones) zones.now.collections.list healthy packet.now reply.new.bytes) }
+        → AnswersAll (hosted_of zones.now.zones) zones.now.collections.list healthy tables.now packet.now
+        reply.new.bytes) }
 
     // With each ID.
     ensures settled { IfSome result (λ n. (healthy : (zone : ℕ) → SetKey → Bool)
         → Agrees zones.now.zones (V.test view.now) healthy
-        → IsSettled (hosted_of zones.now.zones) zones.now.collections.list healthy
+        → IsSettled (hosted_of zones.now.zones) zones.now.collections.list healthy tables.now
         (drop 2 packet.now) (drop 2 reply.new.bytes)) }
     ensures length { IfSome result (λ n. n ≡ length reply.new.bytes) }
 
@@ -77,18 +80,18 @@ fn settle_query<V: HealthView>(
     requires served { AreServed zones.now.zones }
     requires whole { IsWhole query.now }
     requires room { 4096 ≤ reply.old.room }
-    ensures plain { IfSome result (λ n. (set : RecordSet)
+    ensures plain { IfSome result (λ n. (set : RecordSet) × (scope : ℕ)
         × ((healthy : (zone : ℕ) → SetKey → Bool) → Agrees zones.now.zones (V.test view.now) healthy
-        → IsPlain healthy (hosted_of zones.now.zones) query.now set)
-        × (reply.new.bytes ≡ octets_within (plain_reply query.now set) (most_of query.now.edns))) }
+        → IsPlain (served_by zones.now.zones zones.now.collections.list healthy tables.now) query.now set scope)
+        × (reply.new.bytes ≡ octets_within (plain_reply query.now set scope) (most_of query.now.edns))) }
     ensures length { IfSome result (λ n. n ≡ length reply.new.bytes) }
     ensures room { reply.new.room ≡ reply.old.room }
     ensures unsettled { result ≡ None → reply.new ≡ reply.old }
 {
-    if !is_plain(zones, view, tables, query, scratch) {
+    let Some(scope) = plain_scope(zones, view, tables, query, scratch) else {
         return None;
-    }
+    };
     reply.begin(query);
     write_first(&query.name, reply, scratch);
-    Some(reply.finish(true, 0, limit_of(&query.edns), 0))
+    Some(reply.finish(true, 0, limit_of(&query.edns), scope))
 }

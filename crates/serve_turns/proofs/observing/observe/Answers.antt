@@ -10,7 +10,7 @@ use Rattle.serve_turns.specs.Settled.{AreSettled, Serves}
 use Rattle.serve_turns.proofs.observing.observe.Goals as goal
 
 pub returns-then-not-is_same_status-clause-taken : goal.returns-then-not-is_same_status-clause-taken
-returns-then-not-is_same_status-clause-taken c = λ engine serves.
+returns-then-not-is_same_status-clause-taken c = λ engine tables serves.
     let its = c.in-Taken.ensures.reports engine serves.stands in (
       c.in-Some.seen,
       (sym c.in-Some.ensures.same, its.1.0),
@@ -21,7 +21,7 @@ returns-then-not-is_same_status-clause-taken c = λ engine serves.
     )
 
 pub returns-else-not-is_same_status-clause-taken : goal.returns-else-not-is_same_status-clause-taken
-returns-else-not-is_same_status-clause-taken c = λ engine serves.
+returns-else-not-is_same_status-clause-taken c = λ engine tables serves.
     let its = c.in-Taken.ensures.reports engine serves.stands in
     let seen = c.in-Some.seen in
     let report : Report = record { check = seen.id; checker = seen.checker; pass = seen.pass } in
@@ -30,7 +30,7 @@ returns-else-not-is_same_status-clause-taken c = λ engine serves.
       (sym c.in-Some.ensures.same, its.1.0),
       record {
         stands = stands;
-        settled = settled_still engine report c.args.replies.now its.1.0 c.check_status-before.result
+        settled = settled_still engine tables report c.args.replies.now its.1.0 c.check_status-before.result
             c.check_status.result (c.check_status-before.ensures engine serves.stands)
             (c.check_status.ensures (record engine { reports = report ∷ engine.reports }) stands)
             (c.is_same_status.ensures c.if-not-is_same_status.false) serves.settled;
@@ -38,24 +38,24 @@ returns-else-not-is_same_status-clause-taken c = λ engine serves.
     )
 
 pub returns-in-NoSuchHealthCheck-clause-taken : goal.returns-in-NoSuchHealthCheck-clause-taken
-returns-in-NoSuchHealthCheck-clause-taken c = λ engine serves.
+returns-in-NoSuchHealthCheck-clause-taken c = λ engine tables serves.
     let its = c.in-NoSuchHealthCheck.ensures.reports engine serves.stands in
     no_check engine its.0 c.args.datagram.now c.in-Some.seen
-    (λ after. Serves after c.take_once.new.store c.args.replies.now) (sym c.in-Some.ensures.same)
+    (λ after. Serves after tables c.take_once.new.store c.args.replies.now) (sym c.in-Some.ensures.same)
     (record {
       stands = its.2;
-      settled = subst (λ (e : Engine). AreSettled e c.args.replies.now) (sym its.1.1) serves.settled;
+      settled = subst (λ (e : Engine). AreSettled e tables c.args.replies.now) (sym its.1.1) serves.settled;
     })
     its.1
 
 pub returns-in-BadChecker-clause-taken : goal.returns-in-BadChecker-clause-taken
-returns-in-BadChecker-clause-taken c = λ engine serves.
+returns-in-BadChecker-clause-taken c = λ engine tables serves.
     let its = c.in-BadChecker.ensures.reports engine serves.stands in
     no_checker engine its.0 c.args.datagram.now c.in-Some.seen
-    (λ after. Serves after c.take_once.new.store c.args.replies.now) (sym c.in-Some.ensures.same)
+    (λ after. Serves after tables c.take_once.new.store c.args.replies.now) (sym c.in-Some.ensures.same)
     (record {
       stands = its.2;
-      settled = subst (λ (e : Engine). AreSettled e c.args.replies.now) (sym its.1.2) serves.settled;
+      settled = subst (λ (e : Engine). AreSettled e tables c.args.replies.now) (sym its.1.2) serves.settled;
     })
     its.1 c.in-Some.ensures.checker
 

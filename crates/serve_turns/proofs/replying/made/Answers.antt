@@ -35,12 +35,12 @@ returns-in-None-clause-none c = none_told c.query-in-None.result c.query-in-None
 
 pub returns-in-Some-clause-serves : goal.returns-in-Some-clause-serves
 returns-in-Some-clause-serves c = λ engine serves.
-    c.in-Some.ensures.serves engine (served_same engine c.args.store.now c.args.store.now c.args.replies.now
+    c.in-Some.ensures.serves engine (served_same engine c.args.tables.now c.args.store.now c.args.store.now c.args.replies.now
     c.note.new.self refl c.note.ensures serves)
 
 pub returns-in-None-clause-serves : goal.returns-in-None-clause-serves
 returns-in-None-clause-serves c = λ engine serves.
-    served_same engine c.settled.new.store c.query-in-None.new.self c.settled.new.replies c.settled.new.replies
+    served_same engine c.args.tables.now c.settled.new.store c.query-in-None.new.self c.settled.new.replies c.settled.new.replies
     c.query-in-None.ensures.same refl
-    (c.in-None.ensures.serves engine (served_same engine c.args.store.now c.args.store.now c.args.replies.now
+    (c.in-None.ensures.serves engine (served_same engine c.args.tables.now c.args.store.now c.args.store.now c.args.replies.now
     c.note.new.self refl c.note.ensures serves))

@@ -9,8 +9,8 @@ pub returns-in-Some-clause-serves : goal.returns-in-Some-clause-serves
 returns-in-Some-clause-serves c = λ engine serves. record {
   stands = subst (λ (s : Store). StandsFor engine s) (sym c.in-Some.ensures.same) serves.stands;
   settled =
-      with_one engine c.args.replies.now c.keep.new.self c.args.packet.now c.bytes.result.now serves.settled
+      with_one engine c.args.tables.now c.args.replies.now c.keep.new.self c.args.packet.now c.bytes.result.now serves.settled
       (subst (λ (l : List ℕ). IsSettled engine.config.zones engine.config.collections.list
-      (is_healthy engine.config engine.reports) (drop 2 c.args.packet.now) (drop 2 l)) (sym c.bytes.ensures)
+      (is_healthy engine.config engine.reports) c.args.tables.now (drop 2 c.args.packet.now) (drop 2 l)) (sym c.bytes.ensures)
       (c.in-Some.ensures.settled engine serves.stands)) c.keep.ensures;
 }

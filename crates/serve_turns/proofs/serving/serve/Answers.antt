@@ -20,7 +20,7 @@ loop-turns-init g c = record {
   counts = omega arith;
   so_far = at_start c.args.tables.now c.args.store.now (g.R.Rng.stream c.args.words.now)
       (g.L.Link.coming c.args.link.now) (g.L.Link.sent c.args.link.now) c.no_turns-turns.result
-      c.no_turns-turns.ensures (λ engine. Serves engine c.args.store.now c.clear.new.self)
+      c.no_turns-turns.ensures (λ engine. Serves engine c.args.tables.now c.args.store.now c.clear.new.self)
       (λ engine stands. record { stands = stands; settled = λ kept keeps. absurd (c.clear.ensures kept keeps) });
 }
 
@@ -38,8 +38,8 @@ loop-turns-preserved g c = record {
   so_far = goes_on c.args.tables.now c.args.store.now
       (g.R.Rng.stream c.args.words.now) (g.L.Link.coming c.args.link.now)
       (g.L.Link.sent c.args.link.now)
-      (λ engine. Serves engine c.loop-turns.store c.loop-turns.replies)
-      (λ engine. Serves engine c.take_turn.new.store c.take_turn.new.replies)
+      (λ engine. Serves engine c.args.tables.now c.loop-turns.store c.loop-turns.replies)
+      (λ engine. Serves engine c.args.tables.now c.take_turn.new.store c.take_turn.new.replies)
       (record {
         words = g.R.Rng.stream c.loop-turns.words;
         turns = c.loop-turns.turns;
@@ -59,7 +59,7 @@ pub returns-in-Closed-clause-leaves : goal.returns-in-Closed-clause-leaves
 returns-in-Closed-clause-leaves g c = λ engine arrivals before stands comes was.
     leave_less (answer.Took c.take_turn.new.turns) c.args.tables.now before c.args.n
     (first engine (g.R.Rng.stream c.args.words.now)) arrivals
-    (λ after. Serves after c.take_turn.new.store c.take_turn.new.replies)
+    (λ after. Serves after c.args.tables.now c.take_turn.new.store c.take_turn.new.replies)
     (λ after. StandsFor after c.take_turn.new.store)
     (record {
       words = g.R.Rng.stream c.take_turn.new.words;
@@ -71,8 +71,8 @@ returns-in-Closed-clause-leaves g c = λ engine arrivals before stands comes was
     (at_close c.args.tables.now c.args.store.now
     (g.R.Rng.stream c.args.words.now) (g.L.Link.coming c.args.link.now)
     (g.L.Link.sent c.args.link.now)
-    c.args.n (λ engine. Serves engine c.loop-turns.store c.loop-turns.replies)
-    (λ engine. Serves engine c.take_turn.new.store c.take_turn.new.replies)
+    c.args.n (λ engine. Serves engine c.args.tables.now c.loop-turns.store c.loop-turns.replies)
+    (λ engine. Serves engine c.args.tables.now c.take_turn.new.store c.take_turn.new.replies)
     (record {
       words = g.R.Rng.stream c.loop-turns.words;
       turns = c.loop-turns.turns;
@@ -92,7 +92,7 @@ pub returns-in-Failed-clause-leaves : goal.returns-in-Failed-clause-leaves
 returns-in-Failed-clause-leaves g c = λ engine arrivals before stands comes was.
     leave_less answer.Failed c.args.tables.now before c.args.n
     (first engine (g.R.Rng.stream c.args.words.now)) arrivals
-    (λ after. Serves after c.take_turn.new.store c.take_turn.new.replies)
+    (λ after. Serves after c.args.tables.now c.take_turn.new.store c.take_turn.new.replies)
     (λ after. StandsFor after c.take_turn.new.store)
     (record {
       words = g.R.Rng.stream c.take_turn.new.words;
@@ -104,8 +104,8 @@ returns-in-Failed-clause-leaves g c = λ engine arrivals before stands comes was
     (at_fault c.args.tables.now c.args.store.now
     (g.R.Rng.stream c.args.words.now) (g.L.Link.coming c.args.link.now)
     (g.L.Link.sent c.args.link.now)
-    c.args.n (λ engine. Serves engine c.loop-turns.store c.loop-turns.replies)
-    (λ engine. Serves engine c.take_turn.new.store c.take_turn.new.replies)
+    c.args.n (λ engine. Serves engine c.args.tables.now c.loop-turns.store c.loop-turns.replies)
+    (λ engine. Serves engine c.args.tables.now c.take_turn.new.store c.take_turn.new.replies)
     (record {
       words = g.R.Rng.stream c.loop-turns.words;
       turns = c.loop-turns.turns;
@@ -124,7 +124,7 @@ pub returns-clause-leaves : goal.returns-clause-leaves
 returns-clause-leaves g c = λ engine arrivals before stands comes was.
     leave_less (answer.Took c.loop-turns.turns) c.args.tables.now before c.args.n
     (first engine (g.R.Rng.stream c.args.words.now)) arrivals
-    (λ after. Serves after c.loop-turns.store c.loop-turns.replies)
+    (λ after. Serves after c.args.tables.now c.loop-turns.store c.loop-turns.replies)
     (λ after. StandsFor after c.loop-turns.store)
     (record {
       words = g.R.Rng.stream c.loop-turns.words;
@@ -136,8 +136,8 @@ returns-clause-leaves g c = λ engine arrivals before stands comes was.
     (all_taken c.args.tables.now c.args.store.now
     (g.R.Rng.stream c.args.words.now) (g.L.Link.coming c.args.link.now)
     (g.L.Link.sent c.args.link.now)
-    c.args.n (λ engine. Serves engine c.loop-turns.store c.loop-turns.replies)
-    (λ engine. Serves engine c.loop-turns.store c.loop-turns.replies)
+    c.args.n (λ engine. Serves engine c.args.tables.now c.loop-turns.store c.loop-turns.replies)
+    (λ engine. Serves engine c.args.tables.now c.loop-turns.store c.loop-turns.replies)
     (record {
       words = g.R.Rng.stream c.loop-turns.words;
       turns = c.loop-turns.turns;

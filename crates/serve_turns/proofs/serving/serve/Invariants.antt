@@ -14,7 +14,7 @@ invariant-loop-turns g l = record {
   ports : g.L.Link.ports l.link ≡ g.L.Link.ports l.fn.link;
   counts : g.L.Link.faults l.fn.link ≤ g.L.Link.faults l.link;
   so_far : SoFar l.tables l.fn.store (g.R.Rng.stream l.fn.words) (g.L.Link.coming l.fn.link)
-      (g.L.Link.sent l.fn.link) (λ engine. Serves engine l.store l.replies) (record {
+      (g.L.Link.sent l.fn.link) (λ engine. Serves engine l.tables l.store l.replies) (record {
         words = g.R.Rng.stream l.words;
         turns = l.turns;
         coming = g.L.Link.coming l.link;

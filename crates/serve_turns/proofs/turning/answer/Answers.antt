@@ -13,7 +13,7 @@ returns-in-None-clause-leaves g c = λ before old arrivals stands_for stands.
       coming = g.L.Link.coming c.args.link.now;
       sent = g.L.Link.sent c.args.link.now;
     })
-    stands (λ engine. Serves engine c.reply_to-told.new.store c.reply_to-told.new.replies) c.draw-drawn.result
+    stands (λ engine. Serves engine c.args.tables.now c.reply_to-told.new.store c.reply_to-told.new.replies) c.draw-drawn.result
     c.draw-drawn.ensures.drawn
     (c.reply_to-told.ensures.serves old.engine stands_for)
     (record {
@@ -37,7 +37,7 @@ returns-in-Whole-clause-leaves g c = λ before old arrivals stands_for stands.
       coming = g.L.Link.coming c.args.link.now;
       sent = g.L.Link.sent c.args.link.now;
     })
-    stands (λ engine. Serves engine c.reply_to-told.new.store c.reply_to-told.new.replies) c.draw-drawn.result
+    stands (λ engine. Serves engine c.args.tables.now c.reply_to-told.new.store c.reply_to-told.new.replies) c.draw-drawn.result
     c.draw-drawn.ensures.drawn
     (c.reply_to-told.ensures.serves old.engine stands_for)
     (record {

@@ -13,7 +13,7 @@ returns-in-Dns-clause-leaves g c = λ before old arrivals stands_for stands.
     let came = c.in-Dns.ensures.gives arrivals stands.coming in
     packet_turned c.answer.result c.args.tables.now before c.in-Dns.peer
     (take c.in-Dns.len c.receive.new.into) came.0 came.3.1 old arrivals came.1 came.2
-    (λ engine. Serves engine c.answer.new.store c.answer.new.replies)
+    (λ engine. Serves engine c.args.tables.now c.answer.new.store c.answer.new.replies)
     (record {
       words = g.R.Rng.stream c.answer.new.words;
       turns = c.answer.new.turns;
@@ -32,14 +32,14 @@ returns-in-Report-clause-leaves g c = λ before old arrivals stands_for stands.
     let came = c.in-Report.ensures.gives arrivals stands.coming in
     report_turned c.args.tables.now before old arrivals came.1 came.0 c.front.result.now
     (c.front.ensures ∙ came.3.1) came.2
-    (λ engine. Serves engine c.observe-taken.new.store c.observe-taken.new.replies)
+    (λ engine. Serves engine c.args.tables.now c.observe-taken.new.store c.observe-taken.new.replies)
     (record {
       words = g.R.Rng.stream c.args.words.now;
       turns = c.count_report.new.turns;
       coming = g.L.Link.coming c.receive.new.self;
       sent = g.L.Link.sent c.receive.new.self;
     })
-    c.observe-taken.result (c.observe-taken.ensures.taken old.engine stands_for)
+    c.observe-taken.result (c.observe-taken.ensures.taken old.engine c.args.tables.now stands_for)
     (record {
       words = stands.words;
       turns = refl;

@@ -30,9 +30,9 @@ returns-clause-answers c =
     c.self.inside.index refl its.health in
     let at_table = subst (λ (t : Table). (healthy : ℕ → SetKey → Bool)
     → Agrees t.zones (healthy_in c.self.inside.index) healthy
-    → AnswersAll (hosted_of t.zones) t.collections.list healthy c.args.packet.now c.settle.new.reply.bytes) zones said in
+    → AnswersAll (hosted_of t.zones) t.collections.list healthy c.args.tables.now c.args.packet.now c.settle.new.reply.bytes) zones said in
     subst (λ (its_config : Config). AnswersAll its_config.zones its_config.collections.list
-    (is_healthy its_config engine.reports) c.args.packet.now c.settle.new.reply.bytes) (sym its.config)
+    (is_healthy its_config engine.reports) c.args.tables.now c.args.packet.now c.settle.new.reply.bytes) (sym its.config)
     (at_table (is_healthy config engine.reports) agrees))
     c.settle.ensures.answers
 
@@ -46,8 +46,8 @@ returns-clause-settled c =
     c.self.inside.index refl its.health in
     let at_table = subst (λ (t : Table). (healthy : ℕ → SetKey → Bool)
     → Agrees t.zones (healthy_in c.self.inside.index) healthy
-    → IsSettled (hosted_of t.zones) t.collections.list healthy (drop 2 c.args.packet.now) (drop 2 c.settle.new.reply.bytes)) zones said in
+    → IsSettled (hosted_of t.zones) t.collections.list healthy c.args.tables.now (drop 2 c.args.packet.now) (drop 2 c.settle.new.reply.bytes)) zones said in
     subst (λ (its_config : Config). IsSettled its_config.zones its_config.collections.list
-    (is_healthy its_config engine.reports) (drop 2 c.args.packet.now) (drop 2 c.settle.new.reply.bytes)) (sym its.config)
+    (is_healthy its_config engine.reports) c.args.tables.now (drop 2 c.args.packet.now) (drop 2 c.settle.new.reply.bytes)) (sym its.config)
     (at_table (is_healthy config engine.reports) agrees))
     c.settle.ensures.settled
