@@ -1,6 +1,7 @@
 //! Replies that are the same whoever asks, but for the ID: those of a name by one set.
 //!
-//! Whoever keeps such a reply needn't make it again, as long as the zones stay and no set becomes healthy or unhealthy.
+//! Whoever keeps such a reply needn't make it again, as long as the zones and the tables stay and no
+//! set becomes healthy or unhealthy.
 #![tactic(auto)]
 
 mod plain;
