@@ -1,24 +1,32 @@
 //! Two sockets of this host, one for queries and one for reports, and the wait for a datagram.
+//!
+//! Where no report came lately, a call for the next query waits for it a moment, so that a query
+//! behind a short pause costs one call of the system to receive it and none to wait. Where reports
+//! come, no call waits at one socket while the other one may have something.
 
 ghost use Rattle.std.specs.Prelude.{◌≡◌, ◌≤◌, length, IfOk, IfSome};
 ghost use Rattle.r53_io.specs.Network.{octets_given};
 ghost use Rattle.udp_link.specs.Link.{HasNotFailed};
 
 use crate::peers::{peer_at, place_of};
-use mio::net::UdpSocket;
+use mio::unix::SourceFd;
 use mio::{Events, Interest, Poll, Token};
 use r53_io::{Arrival, Peer};
 use std::alloc::Global;
 use std::io::{self, ErrorKind};
-use std::net::{IpAddr, Ipv4Addr, Net, SocketAddr};
+use std::net::{IpAddr, Ipv4Addr, Net, SocketAddr, UdpSocket};
+use std::os::fd::AsRawFd;
 use std::time::Duration;
 
 /// After so many queries in a row the report socket is looked at.
 const MAX_QUERIES: u32 = 64;
 
-/// After so many queries in a row the system isn't asked any more to tell of others, until none is
-/// there: where it tells of them, each reply that is sent has it look for who waits at the socket.
-const MANY_QUERIES: u32 = 8;
+/// After so many it is looked at behind a pause. The number doubles while no report is there.
+const FEW_QUERIES: u32 = 16;
+
+/// How many milliseconds a call at the query socket waits. The system rounds it up to its own
+/// measure of time, a few milliseconds.
+const MOMENT: u64 = 1;
 
 /// How many milliseconds are waited for a datagram.
 const WAIT: u64 = 100;
@@ -37,8 +45,12 @@ pub(crate) struct Sockets {
     report: UdpSocket,
     poll: Poll,
     events: Events,
-    /// How many queries came in a row.
+    /// How many queries came since the report socket was looked at.
     queries: u32,
+    /// After how many it is looked at.
+    next_look: u32,
+    /// Whether a call at the query socket waits a moment: while no report comes.
+    is_patient: bool,
     /// Whether the system told of reports, and the socket was not found empty since.
     is_reported: bool,
     /// Whether the system tells of queries.
@@ -53,13 +65,12 @@ impl Sockets {
         query_port: u16,
         report_port: u16,
     ) -> io::Result<Sockets> {
-        let mut query = UdpSocket::bind(net, local(query_port))?;
-        let mut report = UdpSocket::bind(net, local(report_port))?;
+        let query = query_socket(net, query_port)?;
+        let report = UdpSocket::bind(net, local(report_port))?;
+        report.set_nonblocking(true)?;
         let poll = Poll::new(net)?;
-        poll.registry()
-            .register(&mut query, QUERY, Interest::READABLE)?;
-        poll.registry()
-            .register(&mut report, REPORT, Interest::READABLE)?;
+        register(&poll, &query, QUERY)?;
+        register(&poll, &report, REPORT)?;
         let events = Events::with_capacity(alloc, 2)?;
         Ok(Sockets {
             query,
@@ -67,6 +78,8 @@ impl Sockets {
             poll,
             events,
             queries: 0,
+            next_look: FEW_QUERIES,
+            is_patient: true,
             is_reported: false,
             is_watched: true,
         })
@@ -86,43 +99,73 @@ impl Sockets {
 
     /// The next datagram of either socket, or Quiet.
     ///
-    /// A query goes first, but after 64 of them a report does, so that neither socket waits for ever.
+    /// A query goes first, but after 64 of them at most a report does, and while reports are there
+    /// behind each: so neither socket waits for ever.
     pub(crate) fn next(&mut self, into: &mut [u8]) -> io::Result<Arrival>
         ensures within { IfOk result (λ a. octets_given a ≤ length into.old) }
         ensures open { IfOk result HasNotFailed }
     {
-        if self.queries >= MAX_QUERIES {
-            self.queries = 0;
-            if let Some(arrival) = self.report(into)? {
-                return Ok(arrival);
-            }
+        if self.queries >= self.next_look
+            && let Some(arrival) = self.look(into)?
+        {
+            return Ok(arrival);
         }
         if let Some(arrival) = self.query(into)? {
-            self.queries += 1;
-            if self.queries == MANY_QUERIES {
-                self.look_away();
-            }
+            self.queries = self.queries.saturating_add(1);
             return Ok(arrival);
         }
         self.queries = 0;
+        self.next_look = self.next_look.min(FEW_QUERIES);
         self.watch()?;
         self.wait(into)
+    }
+
+    /// A look at the report socket. Where a report is there, the next look comes behind the next query.
+    fn look(&mut self, into: &mut [u8]) -> io::Result<Option<Arrival>>
+        ensures within { IfOk result (λ found.
+            IfSome found (λ a. octets_given a ≤ length into.old)) }
+        ensures open { IfOk result (λ found. IfSome found HasNotFailed) }
+        ensures room { length into.new ≡ length into.old }
+    {
+        self.queries = 0;
+        let found = self.report(into)?;
+        if found.is_none() {
+            self.next_look = later(self.next_look);
+            self.look_away();
+            self.be_patient(true)?;
+        }
+        Ok(found)
+    }
+
+    /// Has calls at the query socket wait a moment, or not.
+    fn be_patient(&mut self, is_patient: bool) -> io::Result<()> {
+        if self.is_patient != is_patient {
+            self.query.set_nonblocking(!is_patient)?;
+            self.is_patient = is_patient;
+        }
+        Ok(())
     }
 
     /// Has the system tell of queries: also of one that is there already.
     fn watch(&mut self) -> io::Result<()> {
         if !self.is_watched {
-            self.poll
-                .registry()
-                .register(&mut self.query, QUERY, Interest::READABLE)?;
+            register(&self.poll, &self.query, QUERY)?;
             self.is_watched = true;
         }
         Ok(())
     }
 
-    /// Has the system tell of queries no more. Where it refuses, it goes on telling.
+    /// Has the system tell of queries no more: where it tells of them, each reply that is sent has
+    /// it look for who waits at the socket. Where it refuses, it goes on telling.
     fn look_away(&mut self) {
-        if self.is_watched && self.poll.registry().deregister(&mut self.query).is_ok() {
+        let query = self.query.as_raw_fd();
+        if self.is_watched
+            && self
+                .poll
+                .registry()
+                .deregister(&mut SourceFd(&query))
+                .is_ok()
+        {
             self.is_watched = false;
         }
     }
@@ -147,6 +190,9 @@ impl Sockets {
                 break;
             }
             self.is_reported = self.is_told(REPORT);
+            if self.is_reported {
+                self.next_look = 0;
+            }
             if self.is_told(QUERY)
                 && let Some(arrival) = self.query(into)?
             {
@@ -172,24 +218,55 @@ impl Sockets {
     {
         match self.query.recv_from(into) {
             Ok((n, from)) => Ok(Some(Arrival::Dns(peer_at(from), n))),
-            Err(error) if error.kind() == ErrorKind::WouldBlock => Ok(None),
+            Err(error) if is_none_there(&error) => Ok(None),
             Err(error) => Err(error),
         }
     }
 
-    /// A report that is there.
-    fn report(&self, into: &mut [u8]) -> io::Result<Option<Arrival>>
+    /// A report that is there. While some come no call waits at the query socket.
+    fn report(&mut self, into: &mut [u8]) -> io::Result<Option<Arrival>>
         ensures within { IfOk result (λ found.
             IfSome found (λ a. octets_given a ≤ length into.old)) }
         ensures open { IfOk result (λ found. IfSome found HasNotFailed) }
         ensures room { length into.new ≡ length into.old }
     {
         match self.report.recv_from(into) {
-            Ok((n, _)) => Ok(Some(Arrival::Report(n))),
-            Err(error) if error.kind() == ErrorKind::WouldBlock => Ok(None),
+            Ok((n, _)) => {
+                self.next_look = 1;
+                self.be_patient(false)?;
+                Ok(Some(Arrival::Report(n)))
+            }
+            Err(error) if is_none_there(&error) => Ok(None),
             Err(error) => Err(error),
         }
     }
+}
+
+/// A socket for queries, whose calls wait a moment.
+fn query_socket(net: &impl Net, port: u16) -> io::Result<UdpSocket> {
+    let socket = UdpSocket::bind(net, local(port))?;
+    socket.set_read_timeout(Some(Duration::from_millis(MOMENT)))?;
+    socket.set_write_timeout(Some(Duration::from_millis(MOMENT)))?;
+    Ok(socket)
+}
+
+/// Has the system tell of what comes to a socket.
+fn register(poll: &Poll, socket: &UdpSocket, token: Token) -> io::Result<()> {
+    let descriptor = socket.as_raw_fd();
+    poll.registry()
+        .register(&mut SourceFd(&descriptor), token, Interest::READABLE)
+}
+
+/// How many queries come before the next look, where the last one found no report.
+fn later(next_look: u32) -> u32
+    ensures { result ≤ 64 }
+{
+    next_look.saturating_mul(2).clamp(FEW_QUERIES, MAX_QUERIES)
+}
+
+/// Whether a call told that nothing is there: it would wait, or a signal ended its wait.
+fn is_none_there(error: &io::Error) -> bool {
+    matches!(error.kind(), ErrorKind::WouldBlock | ErrorKind::Interrupted)
 }
 
 /// A port of this host alone.
