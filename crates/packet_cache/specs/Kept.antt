@@ -4,11 +4,11 @@ use Rattle.std.specs.Prelude.{◌≡◌, ◌⊎◌, ℕ, List, drop, Option, Som
 -- What stands behind the ID of a packet, and behind that of the reply to it: the ID is two octets, with which both begin
 -- (RFC 1035, 4.1.1).
 pub record Kept : Type 0 where
-  pub packet : List ℕ
-  pub reply : List ℕ
+  pub packet_rest : List ℕ
+  pub reply_rest : List ℕ
 
 abbrev pub kept_of : (packet reply : List ℕ) → Kept
-kept_of packet reply = record { packet = drop 2 packet; reply = drop 2 reply }
+kept_of packet reply = record { packet_rest = drop 2 packet; reply_rest = drop 2 reply }
 
 -- This is kept at some place.
 abbrev pub Keeps : List (Option Kept) → Kept → Type 0

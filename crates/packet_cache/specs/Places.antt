@@ -2,16 +2,17 @@
 use Rattle.std.specs.Prelude.{ℕ, ◌≡◌, ◌≤◌, ◌==◌, List, take, drop, map, replicate, slice_get, Option, None, Some, if◌then◌else◌}
 use Rattle.packet_cache.specs.Kept.{Kept}
 use Rattle.packet_cache.specs.declared.places.Place.{Place}
+use Rattle.packet_cache.specs.declared.places.TheConstants.{ROOM}
 
 -- a place that nothing took
 abbrev pub free : Place
-free = record { generation = 0; packet = 0; reply = 0; octets = replicate 122 0 }
+free = record { generation = 0; packet_len = 0; reply_len = 0; octets = replicate ROOM 0 }
 
 -- what stands in a place: the octets of the packet, and behind them those of the reply
 abbrev pub told : Place → Kept
 told place = record {
-  packet = take place.packet place.octets;
-  reply = take place.reply (drop place.packet place.octets);
+  packet_rest = take place.packet_len place.octets;
+  reply_rest = take place.reply_len (drop place.packet_len place.octets);
 }
 
 -- Of an older generation nothing is kept.

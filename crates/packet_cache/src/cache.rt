@@ -4,13 +4,10 @@ ghost use Rattle.std.specs.Prelude.{◌≡◌, ◌≤◌, ◌+◌, ◌++◌, ℕ
 ghost use Rattle.packet_cache.specs.Kept.{Keeps, KeepsNoMoreBut, KeepsNothing, kept_of};
 ghost use Rattle.packet_cache.specs.Places.{AreOfThePast, free, kept_at, told};
 
-use crate::places::{FREE, Place, ROOM, reply_in, taken};
+use crate::places::{FREE, PLACES, Place, ROOM, reply_in, taken};
 use octets::{OutOfMemory, behind, front, put_at};
 use std::alloc::Global;
 use std::marker::Model;
-
-/// How many places there are, and marks: a power of two.
-const PLACES: usize = 32_768;
 
 /// A mark of no packet.
 const NEVER: u32 = 3;
@@ -53,7 +50,7 @@ impl Model for PacketCache {
 }
 
 impl PacketCache {
-    /// A cache that keeps nothing. It takes four megabytes, and no more later.
+    /// A cache that keeps nothing. It takes eight megabytes, and no more later.
     pub fn new(alloc: Global) -> Result<PacketCache, OutOfMemory>
         ensures { IfOk result KeepsNothing }
     {
@@ -83,10 +80,10 @@ impl PacketCache {
     /// says how many octets it has. It has the packet's ID. The key may be any.
     pub fn answer(&self, key: u64, octets: &mut [u8], len: usize) -> Option<usize>
         requires { len ≤ length octets.old }
-        ensures kept { IfSome result (λ n. (reply : List ℕ) × Keeps self.now (record {
-          packet = drop 2 (take len octets.old);
-          reply = reply;
-        }) × (take n octets.new ≡ take 2 octets.old ++ reply)) }
+        ensures kept { IfSome result (λ n. (reply_rest : List ℕ) × Keeps self.now (record {
+          packet_rest = drop 2 (take len octets.old);
+          reply_rest = reply_rest;
+        }) × (take n octets.new ≡ take 2 octets.old ++ reply_rest)) }
         ensures long { IfSome result (λ n. 2 ≤ len) }
         ensures within { IfSome result (λ n. n ≤ length octets.new) }
         ensures length { length octets.new ≡ length octets.old }
@@ -99,12 +96,12 @@ impl PacketCache {
             return None;
         }
         let place = self.places.get(at(key))?;
-        let reply = reply_in(place, self.generation, behind(front(octets, len), 2))?;
-        let size = 2 + reply.len();
+        let reply_rest = reply_in(place, self.generation, behind(front(octets, len), 2))?;
+        let size = 2 + reply_rest.len();
         if size > octets.len() {
             return None;
         }
-        put_at(octets, 2, reply);
+        put_at(octets, 2, reply_rest);
         Some(size)
     }
 
@@ -185,7 +182,7 @@ impl PacketCache {
 
 /// The place of a key.
 fn at(key: u64) -> usize {
-    (key % 32_768) as usize
+    (key % PLACES as u64) as usize
 }
 
 /// The mark of a key in a generation, by which this is known.

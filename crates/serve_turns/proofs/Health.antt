@@ -124,5 +124,5 @@ settled_still engine tables report replies endpoint before after old new same ar
     ∙ (sym same ∙ (ap (λ (o : Option (Bool × ℕ)). option_map (λ (t : Bool × ℕ). t.0) o) old
     ∙ told engine.reports)))) in
     subst (λ (healthy : ℕ → SetKey → Bool). (kept : Kept) → Keeps replies kept
-    → IsSettled engine.config.zones engine.config.collections.list healthy tables kept.packet kept.reply)
+    → IsSettled engine.config.zones engine.config.collections.list healthy tables kept.packet_rest kept.reply_rest)
     (sym (health_kept engine.config report engine.reports endpoint its)) are

@@ -36,7 +36,7 @@ module _ (engine : Engine) (tables : Tables) where
   -- a packet whose reply is kept, which stands in its place
   pub answered_by : (replies : List (Option Kept)) → AreSettled engine tables replies → (packet after : List ℕ)
       (len size : ℕ) (reply : List ℕ) → 2 ≤ len → len ≤ length packet → AreOctets (take len packet)
-      → Keeps replies (record { packet = drop 2 (take len packet); reply = reply })
+      → Keeps replies (record { packet_rest = drop 2 (take len packet); reply_rest = reply })
       → take size after ≡ take 2 packet ++ reply
       → AnswersAll engine.config.zones engine.config.collections.list
       (is_healthy engine.config engine.reports) tables (take len packet) (take size after)
@@ -44,7 +44,7 @@ module _ (engine : Engine) (tables : Tables) where
       subst (λ (o : List ℕ). AnswersAll engine.config.zones engine.config.collections.list
       (is_healthy engine.config engine.reports) tables (take len packet) o)
       (ap (λ (l : List ℕ). l ++ reply) (take_two len packet many) ∙ sym is)
-      (are (record { packet = drop 2 (take len packet); reply = reply }) keeps (take len packet) octets
+      (are (record { packet_rest = drop 2 (take len packet); reply_rest = reply }) keeps (take len packet) octets
       (two_left len packet many within) refl)
 
   -- one more is kept
@@ -54,10 +54,10 @@ module _ (engine : Engine) (tables : Tables) where
   with_one old new packet reply are settled more kept keeps = by (more kept keeps)
     where
       by : Keeps old kept ⊎ (kept ≡ kept_of packet reply)
-          → IsSettled engine.config.zones engine.config.collections.list (is_healthy engine.config engine.reports) tables kept.packet kept.reply
+          → IsSettled engine.config.zones engine.config.collections.list (is_healthy engine.config engine.reports) tables kept.packet_rest kept.reply_rest
       by (inl before) = are kept before
       by (inr is) =
-          subst (λ (k : Kept). IsSettled engine.config.zones engine.config.collections.list (is_healthy engine.config engine.reports) tables k.packet k.reply)
+          subst (λ (k : Kept). IsSettled engine.config.zones engine.config.collections.list (is_healthy engine.config engine.reports) tables k.packet_rest k.reply_rest)
           (sym is) settled
 
 -- one store and one list of kept replies

@@ -12,7 +12,7 @@ use Rattle.serve_turns.specs.declared.replying.Told.TheVariants as told
 abbrev pub AreSettled : Engine → Tables → List (Option Kept) → Type 0
 AreSettled engine tables replies = (kept : Kept) → Keeps replies kept
     → IsSettled engine.config.zones engine.config.collections.list (is_healthy engine.config engine.reports) tables
-    kept.packet kept.reply
+    kept.packet_rest kept.reply_rest
 
 -- A store and the replies that are kept: it stands for the engine, and they are settled by it and by the tables.
 pub record Serves (engine : Engine) (tables : Tables) (store : Store) (replies : List (Option Kept)) : Type 0 where
