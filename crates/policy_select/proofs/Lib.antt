@@ -7,6 +7,7 @@ pub mod Noted
 mod Pieces
 mod Policies
 mod LeastSlow
+mod Front
 mod Settled
 pub mod Targets
 pub use Rattle.zone_table.proofs.Listing

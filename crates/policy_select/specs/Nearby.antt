@@ -35,7 +35,13 @@ IsForOtherCountry country first sets i =
     (set : RecordSet) × (slice_get sets i ≡ Some set)
     × IsOtherCountry country (unwrap_or (place_of set.routing) first)
 
--- So are all from one place to another.
+-- The set at a place of some has this place, where the first one stands for each that has none.
+abbrev pub HasPlace : Place → (first : Place) → List RecordSet → (i : ℕ) → Type 0
+HasPlace place first sets i =
+    (set : RecordSet) × (slice_get sets i ≡ Some set)
+    × (unwrap_or (place_of set.routing) first ≡ place)
+
+-- All from one place to another are for other countries.
 abbrev pub AreForOthers : (country : ℕ) → (first : Place) → List RecordSet → (from until : ℕ)
     → Type 0
 AreForOthers country first sets from until =
@@ -73,6 +79,10 @@ abbrev pub Settles : Option Location → Place → Type 0
 Settles client place =
     (told : Location) × (code : List ℕ) × (client ≡ Some told) × (told.subdivision ≡ None)
     × (told.country ≡ Some code) × (place ≡ Country code)
+
+-- The set at a place of some is for the client's country, of which no subdivision is told.
+abbrev pub IsSettled : Option Location → (first : Place) → List RecordSet → (i : ℕ) → Type 0
+IsSettled client first sets i = (place : Place) × Settles client place × HasPlace place first sets i
 
 -- The choice among the first sets is that among all of them.
 abbrev pub FirstDecide : Option Location → List Place → List Bool → (n : ℕ) → Type 0

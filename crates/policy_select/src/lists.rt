@@ -1,24 +1,25 @@
 //! What the sets of a group say, set by set, as lists for the choices. What the first set says is
 //! known where it tells the policy.
 
-ghost use Rattle.std.specs.Prelude.{◌≡◌, ◌<◌, ◌≤◌, IfSome, IsSome, length, take};
+ghost use Rattle.std.specs.Prelude.{◌≡◌, ◌<◌, ◌≤◌, IfSome, IsSome, IsTrue, Some, length, slice_get, take, true};
 ghost use Rattle.answer_model.specs.Choice.{each};
 ghost use Rattle.answer_model.specs.Policies.{location_of, place_of, region_of, role_of, weight_of};
+ghost use Rattle.geo_latency.specs.Nearest.{wanted};
 ghost use Rattle.zone_table.specs.Looking.{IsGroupNow, slots_in};
 ghost use Rattle.std.specs.Option.{option_copied, unwrap_or};
 ghost use Rattle.routing.specs.declared.policies.Place.{Place};
 ghost use Rattle.policy_select.specs.Members.{AreMembers};
-ghost use Rattle.policy_select.specs.Nearby.{AreForOthers, IsEnough};
+ghost use Rattle.policy_select.specs.Nearby.{AreForOthers, IsEnough, IsSettled};
 ghost use Rattle.policy_select.specs.Groups.{flags_in, sets_in};
 ghost use Rattle.policy_select.specs.Rules.{FirstSays};
 ghost use Rattle.policy_select.specs.Soonest.{slow_each};
 
 use crate::group::{is_member_healthy, routing_at};
-use crate::near::{country_of, settles};
+use crate::near::{country_of, settles, settling_code};
 use crate::parts::location_or;
 use crate::said::{
-    is_passed_by, near_place_of_member, region_of_member, role_of_member, slowness_of_member,
-    weight_of_member,
+    is_for_country, is_passed_by, near_place_of_member, region_of_member, role_of_member,
+    slowness_of_member, weight_of_member,
 };
 use crate::view::HealthView;
 use answer_model::{Latencies, Location};
@@ -98,7 +99,7 @@ pub(crate) fn note_roles(
 /// long, it may be for another country too.
 // Nothing is written and nobody asked in this walk, so that where the sets stand is loaded once.
 #[inline(always)]
-fn next_near(
+pub(crate) fn next_near(
     zones: &Zones,
     group: &Group,
     slots: &[u32],
@@ -121,7 +122,38 @@ fn next_near(
     None
 }
 
-/// Notes of a geolocation group the sets that may apply to the client, which a set for another
+/// Whether the set at a place of a geolocation group is chosen whatever sets stand behind it: it is
+/// healthy and for the client's country, of which no subdivision is told. Where its identifier is
+/// long this isn't told here.
+#[inline(always)]
+pub(crate) fn is_settled<V: HealthView>(
+    zones: &Zones,
+    group: Group,
+    slots: &[u32],
+    view: &V,
+    at: usize,
+    i: usize,
+    client: Option<&Location>,
+) -> bool
+    requires group { IsGroupNow zones.now.zones group }
+    requires slots { AreMembers zones.now.zones group slots.now at }
+    requires within { i < group.length }
+    ensures healthy { IsTrue result
+        → slice_get (flags_in zones.now.zones (V.test view.now) group) i ≡ Some true }
+    ensures settled { IsTrue result → (first : Place)
+        → IsSettled (option_copied client.entry) first (sets_in zones.now.zones group) i }
+{
+    let Some(code) = settling_code(client) else {
+        return false;
+    };
+    if !is_for_country(zones, &group, slots, at, i, &code) {
+        return false;
+    }
+    is_member_healthy(zones, group, slots, view, i)
+}
+
+/// Notes of a geolocation group, from a place on up to which all sets are for other countries, the
+/// sets that may apply to the client, which a set for another
 /// country doesn't: their places, which of them are healthy, and where they stand in the group; up to
 /// one that is chosen whatever stands behind it. The answer is how many they are, and none where there
 /// is no room for them. Nobody is asked for the health of the others.
@@ -131,6 +163,7 @@ pub(crate) fn note_near<V: HealthView>(
     slots: &[u32],
     view: &V,
     at: usize,
+    near: usize,
     first: &Place,
     client: Option<&Location>,
     places: &mut [Place],
@@ -139,6 +172,9 @@ pub(crate) fn note_near<V: HealthView>(
 ) -> Option<usize>
     requires group { IsGroupNow zones.now.zones group }
     requires slots { AreMembers zones.now.zones group slots.now at }
+    requires within { near ≤ group.length }
+    requires passed { AreForOthers (wanted (option_copied client)) first.now
+        (sets_in zones.now.zones group) 0 near }
     requires healthy { length places.old ≤ length healthy.old }
     requires sets { length places.old ≤ length sets.old }
     ensures noted { IfSome result (λ count. IsEnough (option_copied client.entry)
@@ -153,7 +189,7 @@ pub(crate) fn note_near<V: HealthView>(
 {
     let country = country_of(client);
     let mut count = 0;
-    let mut from = 0;
+    let mut from = near;
     while let Some(i) = next_near(zones, &group, slots, at, from, country) {
         from = i + 1;
         let Some(place) = near_place_of_member(zones, &group, slots, at, i, first, country) else {

@@ -1,10 +1,11 @@
 //! The sets of a geolocation group that may apply to a client. The others, which are for another
 //! country, don't decide.
 
-ghost use Rattle.std.specs.Prelude.{◌≡◌, ◌∷◌, [], false, true, IsTrue, None};
+ghost use Rattle.std.specs.Prelude.{◌≡◌, ◌∷◌, [], false, true, IfSome, IsTrue, None};
 ghost use Rattle.std.specs.Option.{option_copied};
 ghost use Rattle.geo_latency.specs.Nearest.{code_number, wanted};
 ghost use Rattle.policy_select.specs.Nearby.{NearbyDecide, Settles};
+ghost use Rattle.routing.specs.declared.policies.Place.TheVariants.{Country};
 
 use answer_model::Location;
 use routing::{Place, Sub};
@@ -68,6 +69,21 @@ pub(crate) fn settles(is_healthy: bool, client: Option<&Location>, place: &Place
         Some(told) => told == code,
         None => false,
     }
+}
+
+/// The code of the client's country where it is told without a subdivision: a healthy set for that
+/// country is chosen then, whatever sets stand behind it.
+#[inline(always)]
+pub(crate) fn settling_code(client: Option<&Location>) -> Option<[u8; 2]>
+    ensures { IfSome result (λ code. Settles (option_copied client.entry) (Country code)) }
+{
+    let Some(client) = client else {
+        return None;
+    };
+    if has_subdivision(&client.subdivision) {
+        return None;
+    }
+    client.country
 }
 
 /// Whether a subdivision is told.

@@ -9,7 +9,7 @@ ghost use Rattle.answer_model.specs.Policies.{location_of, place_of, region_of, 
 ghost use Rattle.routing.specs.Texts.{IsLocation, IsRegion, IsSubdivision};
 ghost use Rattle.routing.specs.declared.policies.Continent.{Continent};
 ghost use Rattle.routing.specs.declared.policies.Place.{Place};
-ghost use Rattle.routing.specs.declared.policies.Place.TheVariants.{Subdivision};
+ghost use Rattle.routing.specs.declared.policies.Place.TheVariants.{Country, Subdivision};
 ghost use Rattle.routing.specs.declared.policies.Role.{Role};
 ghost use Rattle.routing.specs.declared.policies.Routing.{Routing};
 ghost use Rattle.routing.specs.declared.policies.Routing.TheVariants as policy;
@@ -144,6 +144,19 @@ pub(crate) fn is_other_country(octets: &[u8], at: u8, country: u32) -> bool
         return false;
     }
     octets[at] == 2 && code_number(octets[at + 1], octets[at + 2]) != country
+}
+
+/// Whether the place at the front is the country of this code.
+#[inline(always)]
+pub(crate) fn is_country_in(octets: &[u8], code: &[u8; 2]) -> bool
+    ensures { (rest : List ℕ) (place : Place) (n : ℕ) → IsPlace place
+        → octets.now ≡ take n (place_octets place ++ rest) → IsTrue result
+        → place ≡ Country code.now }
+{
+    match octets {
+        [2, x, y, ..] => *x == code[0] && *y == code[1],
+        _ => false,
+    }
 }
 
 /// The weight in a policy at the front.

@@ -12,13 +12,15 @@ ghost use Rattle.zone_table.specs.Looking.{IsGroupNow};
 ghost use Rattle.zone_table.specs.RecordSetRecord.{RecordSet};
 ghost use Rattle.policy_select.specs.Groups.{sets_in};
 ghost use Rattle.policy_select.specs.Members.{AreMembers};
-ghost use Rattle.policy_select.specs.Nearby.{IsForOtherCountry, TellsNear};
+ghost use Rattle.policy_select.specs.Nearby.{HasPlace, IsForOtherCountry, TellsNear};
 ghost use Rattle.routing.specs.declared.policies.Place.{Place};
+ghost use Rattle.routing.specs.declared.policies.Place.TheVariants.{Country};
 
 use crate::group::{MOST, policy_copied, policy_pieces};
 use crate::parts::{
-    behind_ident, has_text, ident_size, is_elsewhere_in, is_other_country, octet_behind, place_in,
-    place_whole, region_in, region_whole, role_behind, role_in, text_front, weight_in,
+    behind_ident, has_text, ident_size, is_country_in, is_elsewhere_in, is_other_country,
+    octet_behind, place_in, place_whole, region_in, region_whole, role_behind, role_in, text_front,
+    weight_in,
 };
 use crate::soonest::slowness_under;
 use answer_model::Latencies;
@@ -138,6 +140,30 @@ pub(crate) fn is_passed_by(
         return false;
     };
     is_other_country(behind_ident(front, next, size), 0, country)
+}
+
+/// Whether the set at a place of a group is for the country of this code. Where its identifier is long
+/// this isn't told here.
+#[inline(always)]
+pub(crate) fn is_for_country(
+    zones: &Zones,
+    group: &Group,
+    slots: &[u32],
+    at: usize,
+    i: usize,
+    code: &[u8; 2],
+) -> bool
+    requires group { IsGroupNow zones.now.zones group.now }
+    requires slots { AreMembers zones.now.zones group.now slots.now at }
+    requires within { i < group.now.length }
+    ensures { IsTrue result → (first : Place)
+        → HasPlace (Country code.now) first (sets_in zones.now.zones group.now) i }
+{
+    let (front, next) = policy_pieces(zones, *group, slots, at, i);
+    let Some(size) = ident_size(front, 3) else {
+        return false;
+    };
+    is_country_in(behind_ident(front, next, size), code)
 }
 
 /// The place of the set at a place of a group, and that of the first one where the set has none.

@@ -4,14 +4,31 @@ use Rattle.std.specs.Prelude.{slice_get}
 use Rattle.std.specs.Option.{option_copied, unwrap_or}
 use Rattle.answer_model.specs.Choice.{each}
 use Rattle.answer_model.specs.Policies.{place_of}
+use Rattle.geo_latency.specs.Nearest.{wanted}
 use Rattle.zone_table.specs.RecordSetRecord.{RecordSet}
 use Rattle.policy_select.specs.Groups.{flags_in, sets_in}
 use Rattle.policy_select.specs.Nearby.{TellsNear}
 use Rattle.policy_select.proofs.Choosing.{same_length}
-use Rattle.policy_select.proofs.Nearby.{all_are_enough, elsewhere, noted_on, passed_to, set_passed}
+use Rattle.policy_select.proofs.Nearby.{all_are_enough, elsewhere, none_noted, noted_on, passed_to, set_passed}
 use Rattle.policy_select.proofs.Noted.{few_sets, said_at}
 use Rattle.policy_select.proofs.Settled.{settled}
 use Rattle.policy_select.proofs.lists.note_near.Goals as goal
+
+pub loop-i-init : goal.loop-i-init
+loop-i-init g c =
+    let client = option_copied c.args.client in
+    let first = c.args.first.now in
+    let sets = sets_in c.args.zones.now.zones c.args.group in
+    let test = g.V.HealthView.test c.args.view.now in
+    let flags = flags_in c.args.zones.now.zones test c.args.group in
+    let many = same_length c.args.zones.now.zones test c.args.group in
+    record {
+      within = c.requires.within;
+      few = omega arith;
+      room = omega arith;
+      noted = passed_to client (wanted client) refl first sets flags many c.args.places.now c.args.healthy.now
+          c.args.sets.now 0 0 c.args.near (omega arith) c.requires.passed (none_noted client);
+    }
 
 pub loop-i-smaller-in_default-near_place_of_member : goal.loop-i-smaller-in_default-near_place_of_member
 loop-i-smaller-in_default-near_place_of_member g c =
