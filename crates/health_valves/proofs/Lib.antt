@@ -1,3 +1,4 @@
+pub mod Comes
 pub mod Counts
 pub mod Cuts
 pub mod Links

@@ -1,6 +1,7 @@
 -- A blueprint on its way into rows.
-use Rattle.std.specs.Prelude.{◌≤◌, ◌+◌, ℕ, length}
+use Rattle.std.specs.Prelude.{◌≤◌, ◌+◌, ◌-◌, ℕ, length}
 use Rattle.std.specs.Vec.{vec_capacity}
+use Rattle.health_valves.specs.Valves.{size_of}
 use Rattle.health_valves.specs.declared.valves.Valves.{Valves}
 use Rattle.health_valves.specs.declared.valves.ValveFeeds.{ValveFeeds}
 use Rattle.health_valves.specs.declared.blueprint.Trigger.{Trigger}
@@ -19,3 +20,12 @@ pub record HasRoomFor (valves : Valves) (size links : ℕ) : Type 0 where
   pub owns : size ≤ vec_capacity valves.owns
   pub cone : size ≤ vec_capacity valves.cone
   pub marks : size ≤ vec_capacity valves.marks
+
+-- so does one valve more with so many links
+pub record HasRoomForOne (valves : Valves) (links : ℕ) : Type 0 where
+  pub valve : HasRoomFor valves (size_of valves + 1) 0
+  pub links_room : links ≤ valves.feeds.room
+
+-- how many links there are
+abbrev pub links_of : Valves → ℕ
+links_of valves = valves.feeds.most - valves.feeds.room

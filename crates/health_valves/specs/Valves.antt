@@ -1,5 +1,5 @@
 -- Valves over valves: when each is open, and what feeds it.
-use Rattle.std.specs.Prelude.{◌≡◌, ◌≢◌, ◌≤◌, ◌<◌, ◌+◌, ◌^◌, ◌==◌, ℕ, Bool, true, false, List, [], ◌∷◌, Some, length, slice_get, slice_index, slice_index_or, nat_le, if◌then◌else◌, Contains}
+use Rattle.std.specs.Prelude.{◌≡◌, ◌≢◌, ◌≤◌, ◌<◌, ◌+◌, ◌^◌, ◌==◌, ℕ, Bool, true, false, List, [], ◌∷◌, Some, length, slice_get, slice_index, slice_index_or, nat_le, nat_lt, if◌then◌else◌, Contains}
 use Rattle.std.specs.Vec.{vec_capacity}
 use Rattle.calculated_health.specs.Status.{swapped_if}
 use Rattle.health_valves.specs.Walk.{PathsEnd}
@@ -120,6 +120,17 @@ with_condition valve condition net = record {
 -- Nothing feeds a valve, and nothing has to be open for it.
 abbrev pub unfed_condition : Condition
 unfed_condition = record { need = 0; inverted = false; feeders = [] }
+
+-- All that feed a valve have to be open for it.
+abbrev pub fed_condition : (feeders : List ℕ) → Condition
+fed_condition feeders = record { need = length feeders; inverted = false; feeders = feeders }
+
+-- There is one valve more, behind the others and with this condition; what is behind it is fed by nothing.
+abbrev pub with_one_more : Condition → Net → Net
+with_one_more condition net = record {
+  size = net.size + 1;
+  condition = λ n. if n == net.size then condition else (if nat_lt n net.size then net.condition n else unfed_condition);
+}
 
 -- Each valve from a number on that feeds one feeds another too.
 abbrev pub IsShared : Net → (valve first : ℕ) → Type 0

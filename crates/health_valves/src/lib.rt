@@ -7,6 +7,7 @@
 
 mod blueprint;
 mod cone;
+mod feeding;
 mod laws;
 mod laying;
 mod room;

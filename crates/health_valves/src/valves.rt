@@ -5,17 +5,18 @@ ghost use Rattle.std.specs.Prelude.{◌≡◌, ◌≢◌, ◌≤◌, ◌<◌, �
 ghost use Rattle.std.specs.Prelude.{List, false, if◌then◌else◌, length, slice_get, slice_index, true, ℕ};
 ghost use Rattle.std.specs.Prelude.{Contains, IsOk, OnOk};
 ghost use Rattle.std.specs.List.Sorted.{IsPermutation};
-ghost use Rattle.health_valves.specs.Laying.{HasRoomFor};
+ghost use Rattle.health_valves.specs.Laying.{HasRoomFor, HasRoomForOne, links_of};
 ghost use Rattle.health_valves.specs.Blueprint.{IsDrawn, Drawn, net_in, no_blueprint, own_in};
 ghost use Rattle.health_valves.specs.Valves.{Feeds, HasEnds, ValvesStandFor, IsReady, MeetsEquation, Net, count};
-ghost use Rattle.health_valves.specs.Valves.{IsShared, equation};
+ghost use Rattle.health_valves.specs.Valves.{IsShared, equation, fed_condition};
 ghost use Rattle.health_valves.specs.Valves.{size_of, unfed_condition, value_in, value_of};
-ghost use Rattle.health_valves.specs.Valves.{with_condition, with_need, with_own};
+ghost use Rattle.health_valves.specs.Valves.{with_condition, with_need, with_one_more, with_own};
 ghost use Rattle.health_valves.specs.Pass.{CostsCone, HasCone, HasMarked, IsIdle, IsInOrder, MeetAll};
 ghost use Rattle.health_valves.specs.Pass.{MeetBehind, MeetOutside, FlipsOnly, waiting};
 
 use crate::blueprint::Blueprint;
 use crate::cone::{list_all, list_cone};
+use crate::feeding::{add_feeders, count_open};
 use crate::laying::{lay_counts, lay_links, lay_none, lay_rows, lay_valves};
 use crate::room::{make_feeds, make_room};
 use crate::sharing::feed_others;
@@ -509,6 +510,44 @@ impl Valves {
         };
         self.counts[at] = 0;
         self.owns[at] = 0;
+    }
+
+    /// One valve more, behind those that there are: these feed it, as often as each is given, and all of them
+    /// have to be open. It feeds none yet, so that no other value changes. It takes no memory.
+    pub fn push_fed(&mut self, feeders: &[u32])
+        requires ready { IsReady self.old }
+        requires idle { IsIdle self.old }
+        requires feeders { All (λ x. x < size_of self.old) feeders.now }
+        requires few { length feeders.now < 2 ^ 31 }
+        requires room { HasRoomForOne self.old (length feeders.now) }
+        ensures fits { (net : Net) (own : ℕ → ℕ) → ValvesStandFor net own self.old
+            → ValvesStandFor (with_one_more (fed_condition feeders.now) net) (with_own net.size 0 own) self.new }
+        ensures idle { IsIdle self.new }
+        ensures meet { (net : Net) (own : ℕ → ℕ) → ValvesStandFor net own self.old
+            → MeetAll net own self.old
+            → MeetAll (with_one_more (fed_condition feeders.now) net) (with_own net.size 0 own) self.new }
+        ensures room { (n m : ℕ) → HasRoomFor self.old n m → HasRoomFor self.new n m }
+    {
+        let valve = self.feeds.len() as u32;
+        let need = feeders.len() as u32;
+        let open = count_open(&self.values, feeders);
+        self.rows.push_reserved(ValveFeeds {
+            need,
+            inverted: false,
+        });
+        self.feeds.push_valve();
+        add_feeders(&mut self.feeds, valve, feeders);
+        self.values.push_reserved(is_open(need, false, open));
+        self.counts.push_reserved(open);
+        self.owns.push_reserved(0);
+        self.marks.push_reserved(false);
+    }
+
+    /// How many links there are.
+    pub fn links(&self) -> usize
+        ensures { result ≡ links_of self.now }
+    {
+        self.feeds.feeds()
     }
 
     /// Works out the cone of a valve, with a count of its own that nobody sees.
