@@ -1,10 +1,5 @@
--- What a query comes to that one set answers alone, whoever asks.
-use Rattle.std.proofs.Common.{◌≡◌, ◌<◌, ◌⊎◌, ◌+◌, ℕ, zero, suc, Bool, true, false, List, [], ◌∷◌, Option, None, Some, length, refl, sym, ap, ◌∙◌, subst, arith, inl, inr}
-use Rattle.std.specs.Prelude.{cond, ◌==◌}
-use Rattle.dns_message.specs.declared.query.Query.{Query}
-use Rattle.dns_wire.specs.Draft.{opt_of}
-use Rattle.dns_wire.specs.Limit.{refusal_of}
-use Rattle.ecs_option.specs.declared.subnet.ClientSubnet.{ClientSubnet}
+-- What a group comes to that one set answers alone, whoever asks.
+use Rattle.std.proofs.Common.{◌≡◌, ◌<◌, ◌⊎◌, ◌+◌, ℕ, zero, suc, Bool, List, [], ◌∷◌, refl, sym, ap, ◌∙◌, subst, arith, inl, inr}
 use Rattle.record_set.specs.declared.sets.Body.{Body}
 use Rattle.record_set.specs.declared.sets.Body.TheVariants as body
 use Rattle.record_set.specs.declared.sets.RecordSet.{RecordSet}
@@ -12,17 +7,11 @@ use Rattle.record_set.specs.declared.sets.SetKey.{SetKey}
 use Rattle.routing.specs.declared.policies.Routing.{Routing}
 use Rattle.choice_model.specs.Choice.{chosen_by}
 use Rattle.zone_model.specs.Zones.{group, target_group}
-use Rattle.rdata_layout.specs.declared.types.RType.TheVariants as rtype
 use Rattle.zone_lookup.specs.Clients.{Client}
 use Rattle.zone_lookup.specs.Descent.{Choices, Descended, Means, by_body, by_choice, descend, descends, healthy_in, no_choices, selected, sets_at, unused, uses, with_choice, word_of}
-use Rattle.zone_lookup.specs.Laws.{NamesExist}
-use Rattle.zone_lookup.specs.Records.{answer_records}
-use Rattle.zone_lookup.specs.Sections.{Lookup, Sections, asked, asked_group, cut_above, ends, followed, look_up, sections, step_below, step_from, step_of}
+use Rattle.zone_lookup.specs.Sections.{followed}
 use Rattle.zone_lookup.specs.UsedRecord.{Used}
-use Rattle.zone_lookup.specs.Reply.{Asker, Served, client_of, lookup_of, query_reply, scope_of, told_scope, with_sections, zone_reply}
-use Rattle.zone_lookup.specs.Zones.{zone_for}
-use Rattle.query_engine.proofs.Stepping.{asked_exists}
-use Rattle.settled_replies.specs.Plain.{ComesTo, IsFailover, IsPlain, IsWordless, plain_reply}
+use Rattle.settled_replies.specs.Plain.{ComesTo, IsFailover, IsWordless}
 
 -- The choices of a descent are more than before, where it comes to a set.
 counted : (choices made : Choices) (on : RecordSet → Descended) → made.count ≡ choices.count + 1
@@ -170,47 +159,3 @@ pub failover_wordless : (policy : Routing) → IsFailover policy → IsWordless 
 failover_wordless policy (ident, role, is) group healthy rows word other =
     ap (λ (p : Routing). chosen_by p group healthy rows word) is
     ∙ sym (ap (λ (p : Routing). chosen_by p group healthy rows other) is)
-
--- the sections that answer it
-abbrev pub plain_sections : (name : List (List ℕ)) → RecordSet → Used → Sections
-plain_sections name set used = record (ends used) { answers = answer_records name (set ∷ []) }
-
-sections_to : NamesExist → (lookup : Lookup) (name : List (List ℕ)) (set first : RecordSet) (others : List RecordSet)
-    (used : Used) → cut_above lookup.zone name ≡ None
-    → asked_group lookup.zone.sets name lookup.qtype ≡ first ∷ others
-    → ComesTo lookup.means.healthy lookup.means.client lookup.zone.sets (first ∷ others) set used
-    → sections lookup name ≡ plain_sections name set used
-unfolding sections
-sections_to names lookup name set first others used uncut is comes =
-    let sets = lookup.zone.sets in
-    let filled : 0 < length (asked_group sets name lookup.qtype) =
-    subst (λ (some : List RecordSet). 0 < length some) (sym is) (omega arith) in
-    ap (followed lookup (look_up 7 lookup))
-    (ap (λ (cut : Option RecordSet). step_below lookup name cut no_choices) uncut
-    ∙ (ap (λ (from : Option (List (List ℕ))). step_from lookup name from no_choices)
-    (asked_exists names sets name lookup.qtype filled)
-    ∙ (ap (λ (typed : List RecordSet). step_of lookup name typed (group sets name rtype.Cname) no_choices) is
-    ∙ ap (asked lookup name) (comes lookup.means.words))))
-
--- no scope is told where nothing was used
-pub no_scope : (subnet : Option ClientSubnet) (client : Client) → told_scope subnet client unused ≡ 0
-no_scope None client = refl
-no_scope (Some subnet) client = by (subnet.source == 0)
-  where
-    by : (b : Bool) → cond b 0 (scope_of client unused) ≡ 0
-    by true = refl
-    by false = refl
-
--- So is the reply, whoever asks.
-pub reply_is : NamesExist → (served : Served) (asker : Asker) (query : Query) (set : RecordSet) (scope : ℕ)
-    → IsPlain served query set scope → query_reply served asker query ≡ plain_reply query set scope
-reply_is names served asker query set scope plain =
-    let client = client_of served asker.peer query in
-    let alone = plain.alone in
-    let its = alone.comes asker.peer in
-    ap (λ b. cond b (refusal_of query) (zone_reply served asker query (zone_for served.zones query.name))) plain.heard
-    ∙ (ap (zone_reply served asker query) plain.found
-    ∙ (ap (with_sections query client)
-    (sections_to names (lookup_of served asker.words query client plain.zone) query.name set alone.first alone.others
-    its.0 alone.uncut alone.asked its.1.0)
-    ∙ ap (λ (told : ℕ). record (plain_reply query set scope) { opt = opt_of query.edns told }) its.1.1))

@@ -1,4 +1,4 @@
--- A query that one set answers alone has one reply, whoever asks and by each ID.
+-- A query that has one reply whoever asks has it by each ID.
 use Rattle.std.proofs.Common.{◌≡◌, ◌≤◌, ◌<◌, ◌+◌, ◌*◌, ◌%◌, ◌++◌, ℕ, Bool, List, [], ◌∷◌, Option, None, Some, length, take, drop, sym, ap, ◌∙◌, subst, arith, inl}
 use Rattle.std.specs.Prelude.{IfSome, slice_get}
 use Rattle.cidr_blocks.specs.declared.places.Collection.{Collection}
@@ -11,13 +11,12 @@ use Rattle.dns_wire.specs.Limit.{limit_of}
 use Rattle.dns_wire.specs.Message.{Message, octets_within}
 use Rattle.record_set.specs.declared.sets.RecordSet.{RecordSet}
 use Rattle.record_set.specs.declared.sets.SetKey.{SetKey}
-use Rattle.zone_lookup.specs.Laws.{NamesExist}
 use Rattle.zone_model.specs.Hosted.{HostedZone}
 use Rattle.geo_latency.specs.declared.tables.Tables.{Tables}
 use Rattle.zone_lookup.specs.Reply.{Served}
-use Rattle.settled_replies.specs.Plain.{IsPlain, plain_reply}
+use Rattle.settled_replies.specs.Findings.{RepliesToAll}
 use Rattle.settled_replies.specs.Settled.{AnswersAll, IsSettled}
-use Rattle.settled_replies.proofs.Alone.{reply_is}
+use Rattle.settled_replies.proofs.Answering.{with_each_id}
 use Rattle.settled_replies.proofs.Ids.{high_of, judged, low_of, with_id}
 
 some_same : {X : Type 0} {x y : X} → Some x ≡ Some y → x ≡ y
@@ -34,22 +33,18 @@ pub if_some : {P Q : Type 0} (found : Option ℕ) → (P → Q) → IfSome found
 if_some None on its = tt
 if_some (Some n) on its = on its
 
-pub map_some : {P Q : ℕ → Type 0} (found : Option ℕ) → ((n : ℕ) → P n → Q n) → IfSome found P → IfSome found Q
-map_some None on its = tt
-map_some (Some n) on its = on n its
-
-module _ (names : NamesExist) (zones : List HostedZone) (collections : List (ℕ × Collection))
+module _ (zones : List HostedZone) (collections : List (ℕ × Collection))
     (healthy : (zone : ℕ) → SetKey → Bool) (tables : Tables) where
   abbrev served : Served
   served = record { zones = zones; collections = collections; healthy = healthy; tables = tables }
 
-  pub answers_all : (packet : List ℕ) (query : Query) (set : RecordSet) (scope : ℕ) (bytes : List ℕ)
-      → Judges packet (read.Query query) → IsPlain served query set scope
-      → bytes ≡ octets_within (plain_reply query set scope) (limit_of query.edns) → AnswersAll zones collections healthy tables packet bytes
-  answers_all packet query set scope bytes judges plain is asker = record {
+  pub answers_all : (packet : List ℕ) (query : Query) (reply : Message) (bytes : List ℕ)
+      → Judges packet (read.Query query) → RepliesToAll served query reply
+      → bytes ≡ octets_within reply (limit_of query.edns) → AnswersAll zones collections healthy tables packet bytes
+  answers_all packet query reply bytes judges all is asker = record {
     judged = read.Query query;
     judges = judges;
-    answered = ap Some (is ∙ sym (ap (λ (m : Message). octets_within m (limit_of query.edns)) (reply_is names served asker query set scope plain)));
+    answered = ap Some (is ∙ sym (ap (λ (m : Message). octets_within m (limit_of query.edns)) (all asker)));
   }
 
   -- the octets with another ID
@@ -61,25 +56,21 @@ module _ (names : NamesExist) (zones : List HostedZone) (collections : List (ℕ
       ∙ (ap (λ (x : ℕ). x ∷ ((c * 256 + d) % 256) ∷ drop 2 (octets_within m limit)) (high_of c d lc ld)
       ∙ ap (λ (x : ℕ). c ∷ x ∷ drop 2 (octets_within m limit)) (low_of c d lc ld)))
 
-  pub settled_all : (packet : List ℕ) (query : Query) (set : RecordSet) (scope : ℕ) (bytes : List ℕ)
-      → Judges packet (read.Query query) → IsPlain served query set scope
-      → bytes ≡ octets_within (plain_reply query set scope) (limit_of query.edns)
+  pub settled_all : (packet : List ℕ) (query : Query) (reply : Message) (bytes : List ℕ)
+      → Judges packet (read.Query query) → RepliesToAll served query reply
+      → bytes ≡ octets_within reply (limit_of query.edns)
       → IsSettled zones collections healthy tables (drop 2 packet) (drop 2 bytes)
-  settled_all [] query set scope bytes judges plain is = absurd (judges.0.0 (inl (omega arith)))
-  settled_all (a ∷ []) query set scope bytes judges plain is = absurd (judges.0.0 (inl (omega arith)))
-  settled_all (a ∷ b ∷ t) query set scope bytes judges plain is = by
+  settled_all [] query reply bytes judges all is = absurd (judges.0.0 (inl (omega arith)))
+  settled_all (a ∷ []) query reply bytes judges all is = absurd (judges.0.0 (inl (omega arith)))
+  settled_all (a ∷ b ∷ t) query reply bytes judges all is = by
     where
       one : (c d : ℕ) → c < 256 → d < 256 → AnswersAll zones collections healthy tables (c ∷ d ∷ t) (c ∷ d ∷ drop 2 bytes)
       one c d lc ld =
-          answers_all (c ∷ d ∷ t) (record query { id = id_of (c ∷ d ∷ t) }) set scope (c ∷ d ∷ drop 2 bytes)
+          answers_all (c ∷ d ∷ t) (record query { id = id_of (c ∷ d ∷ t) }) (record reply { id = c * 256 + d })
+          (c ∷ d ∷ drop 2 bytes)
           (judged t a b c d query judges)
-          (record {
-            heard = plain.heard;
-            zone = plain.zone;
-            found = plain.found;
-            alone = plain.alone;
-          })
-          (same_id (plain_reply query set scope) bytes (limit_of query.edns) c d lc ld is)
+          (with_each_id served query reply (c * 256 + d) all)
+          (same_id reply bytes (limit_of query.edns) c d lc ld is)
 
       by : (whole : List ℕ) → AreOctets whole → 2 ≤ length whole → drop 2 whole ≡ t
           → AnswersAll zones collections healthy tables whole (take 2 whole ++ drop 2 bytes)

@@ -1,4 +1,5 @@
 mod Alone
+mod Answering
 mod Ids
 mod Lasting
 pub mod Selected

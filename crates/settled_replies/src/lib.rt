@@ -1,9 +1,11 @@
-//! Replies that are the same whoever asks, but for the ID: those of a name by one set.
+//! Replies that are the same whoever asks, but for the ID: those of a name by one set, of a name without a record that
+//! answers, of one that doesn't exist, and referrals.
 //!
 //! Whoever keeps such a reply needn't make it again, as long as the zones and the tables stay and no
 //! set becomes healthy or unhealthy.
 #![tactic(auto)]
 
+mod findings;
 mod plain;
 mod settling;
 

@@ -1,97 +1,30 @@
-//! Whether one set answers a query alone, whoever asks.
+//! Whether a group comes to one set alone, whoever asks.
 
-ghost use Rattle.std.specs.Prelude.{◌≡◌, ◌<◌, ◌∷◌, List, Some, Bool, ℕ, IfSome, IsTrue, slice_get};
+ghost use Rattle.std.specs.Prelude.{◌≡◌, ◌<◌, Bool, ℕ, IfSome, IsTrue, Some, slice_get};
 ghost use Rattle.address_text.specs.declared.address.IpAddress.{IpAddress};
 ghost use Rattle.dns_message.specs.Whole.{subnet_of};
-ghost use Rattle.query_engine.specs.Asking.{served_by};
 ghost use Rattle.query_engine.specs.Groups.{sets_in};
 ghost use Rattle.query_engine.specs.Looking.{IsGroupNow};
-ghost use Rattle.query_engine.specs.Reply.{is_refused, told_scope};
-ghost use Rattle.query_engine.specs.Served.{IsFound, zone_of};
+ghost use Rattle.query_engine.specs.Reply.{told_scope};
 ghost use Rattle.record_set.specs.declared.sets.RecordSet.{RecordSet};
 ghost use Rattle.record_set.specs.declared.sets.SetKey.{SetKey};
 ghost use Rattle.reply_records.specs.Groups.{Agrees, FewInGroups, sets_in_zone};
 ghost use Rattle.reply_records.specs.Holding.{IsHolding};
 ghost use Rattle.set_octets.specs.Octets.{HasSpelling};
-ghost use Rattle.settled_replies.specs.Plain.{ComesTo, IsAlone, IsOne, IsPlain, IsWordless};
+ghost use Rattle.settled_replies.specs.Plain.{ComesTo, IsOne, IsWordless};
 ghost use Rattle.zone_lookup.specs.Clients.{client_address, client_with};
-ghost use Rattle.zone_lookup.specs.Served.{AreServed};
 ghost use Rattle.zone_lookup.specs.UsedRecord.{Used};
 
 use address_text::IpAddress;
-use dns_message::{Edns, Query};
-use dns_name::Name;
+use dns_message::Edns;
 use geo_latency::Tables;
 use query_engine::{HealthView, Scratch, Zones, client_address, told_scope};
 use reply_records::{Selected, descend_held, first_answers};
 use routing::Routing;
-use zone_lookup::{
-    Found, Group, Seen, Used, cut_above, find_asked, find_zone, known_few, zones_are_longest,
-};
-
-/// The scope that is told where a query is answered by one set alone, whoever asks, which is held then.
-pub(crate) fn plain_scope<V: HealthView>(
-    zones: &Zones,
-    view: &V,
-    tables: &Tables,
-    query: &Query,
-    scratch: &mut Scratch,
-) -> Option<u8>
-    requires served { AreServed zones.now.zones }
-    ensures held { IfSome result (λ scope. IsHolding scratch.new) }
-    ensures plain { IfSome result (λ scope. (set : RecordSet) × (scratch.new ≡ Some set)
-        × ((healthy : (zone : ℕ) → SetKey → Bool) → Agrees zones.now.zones (V.test view.now) healthy
-        → IsPlain (served_by zones.now.zones zones.now.collections.list healthy tables.now) query.now set scope)) }
-{
-    if is_refused(query) {
-        return None;
-    }
-    match find_zone(zones, &query.name) {
-        None => None,
-        Some(found) => scope_in(zones, view, tables, found.0, found.1, query, scratch),
-    }
-}
-
-/// Whether a query asks for another class than IN, or for a type that isn't answered.
-fn is_refused(query: &Query) -> bool
-    ensures { result ≡ is_refused query.now }
-{
-    query.qclass != 1 || matches!(query.qtype, 251 | 252 | 255)
-}
-
-/// The same in the zone that holds the name.
-fn scope_in<V: HealthView>(
-    zones: &Zones,
-    view: &V,
-    tables: &Tables,
-    zone: u32,
-    apex: &Name,
-    query: &Query,
-    scratch: &mut Scratch,
-) -> Option<u8>
-    requires served { AreServed zones.now.zones }
-    requires found { IsFound zones.now.zones query.now.name zone apex.now }
-    ensures held { IfSome result (λ scope. IsHolding scratch.new) }
-    ensures alone { IfSome result (λ scope. (set : RecordSet) × (scratch.new ≡ Some set)
-        × ((healthy : (zone : ℕ) → SetKey → Bool) → Agrees zones.now.zones (V.test view.now) healthy
-        → IsAlone (healthy zone)
-        (λ peer. client_with tables.now zones.now.collections.list (client_address (subnet_of query.now.edns) peer))
-        (told_scope (subnet_of query.now.edns)) (zone_of zones.now.zones zone apex.now) query.now.name query.now.qtype
-        set scope)) }
-{
-    zones_are_longest();
-    known_few(zones, zone, apex);
-    let Found::Sets(group) = find_asked(zones, zone, &query.name, query.qtype) else {
-        return None;
-    };
-    match cut_above(zones, zone, apex, &query.name) {
-        Some(_) => None,
-        None => scope_of_one(zones, view, tables, &query.edns, group, scratch),
-    }
-}
+use zone_lookup::{Group, Seen, Used};
 
 /// The scope where a group comes to one set alone, whoever asks; it is held then.
-fn scope_of_one<V: HealthView>(
+pub(crate) fn scope_of_one<V: HealthView>(
     zones: &Zones,
     view: &V,
     tables: &Tables,

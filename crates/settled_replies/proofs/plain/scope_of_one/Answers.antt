@@ -9,7 +9,8 @@ use Rattle.record_set.specs.declared.sets.RecordSet.{RecordSet}
 use Rattle.reply_records.specs.Groups.{sets_in_zone}
 use Rattle.zone_lookup.specs.Clients.{client_address, client_with}
 use Rattle.zone_lookup.specs.Descent.{descend, no_choices, unused}
-use Rattle.settled_replies.proofs.Alone.{alike, all_by, no_scope}
+use Rattle.settled_replies.proofs.Alone.{alike, all_by}
+use Rattle.settled_replies.proofs.Answering.{no_scope}
 use Rattle.settled_replies.proofs.Lasting.{first_of}
 use Rattle.settled_replies.proofs.plain.scope_of_one.Goals as goal
 
