@@ -1,4 +1,5 @@
-//! Rows by hand over replies from the root zone, which no hosted zone is: octet by octet.
+//! Rows by hand over replies from the root zone, which no hosted zone is: octet by octet; and which of all are the same
+//! whoever asks.
 #![tactic(auto)]
 
 #[cfg(test)]
@@ -7,3 +8,5 @@ mod asking;
 mod made;
 #[cfg(test)]
 mod root;
+#[cfg(test)]
+mod settled;

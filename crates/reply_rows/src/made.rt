@@ -19,7 +19,7 @@ pub fn name(rt: &impl Abort, text: &str) -> Name {
 }
 
 /// The values of these texts.
-fn values(rt: &impl Abort, alloc: Global, rtype: RType, texts: &[&str]) -> Values {
+pub fn values(rt: &impl Abort, alloc: Global, rtype: RType, texts: &[&str]) -> Values {
     let mut list = Vec::new(alloc);
     for text in texts {
         let value = RData::from_text(alloc, rtype, text.as_bytes()).expect(rt, "a value");
@@ -50,11 +50,16 @@ fn sets(rt: &impl Abort, alloc: Global, rows: &[Set]) -> Sets {
 
 /// Zone 1, the root, with simple sets.
 pub fn root(rt: &impl Abort, alloc: Global, rows: &[Set]) -> Zones {
+    root_of(rt, alloc, sets(rt, alloc, rows))
+}
+
+/// Zone 1, the root, with these sets.
+pub fn root_of(rt: &impl Abort, alloc: Global, sets: Sets) -> Zones {
     let mut zones = Zones::new(alloc);
     let edit = ZoneEdit::Begin {
         zone: 1,
         name: Name::root(),
-        sets: sets(rt, alloc, rows),
+        sets,
     };
     assert!(rt; is_allowed(&zones, &edit), "an edit that is allowed");
     let ready = zones.ready(alloc, edit);
