@@ -18,17 +18,14 @@ use std::net::{IpAddr, Ipv4Addr, Net, SocketAddr, UdpSocket};
 use std::os::fd::AsRawFd;
 use std::time::Duration;
 
-/// After so many queries in a row the report socket is looked at.
-const MAX_QUERIES: u32 = 64;
+/// After so many queries in a row the report socket is looked at, where it is empty.
+const MAX_QUERIES: u32 = 32;
 
-/// After so many it is looked at behind a pause. The number doubles while no report is there.
-const FEW_QUERIES: u32 = 16;
-
-/// How many milliseconds a call at the query socket waits. The system rounds it up to its own
-/// measure of time, a few milliseconds.
+/// How many milliseconds a patient call at the query socket waits. The system rounds it up to its
+/// own measure of time, a few milliseconds.
 const MOMENT: u64 = 1;
 
-/// How many milliseconds are waited for a datagram.
+/// How many milliseconds are waited for a datagram of either socket.
 const WAIT: u64 = 100;
 
 /// How often it waits at most, where the system tells of a datagram that was taken already.
@@ -45,9 +42,9 @@ pub(crate) struct Sockets {
     report: UdpSocket,
     poll: Poll,
     events: Events,
-    /// How many queries came since the report socket was looked at.
+    /// How many queries came since the last look at the report socket, and since the last pause.
     queries: u32,
-    /// After how many it is looked at.
+    /// After how many the next look comes: fewer while reports come.
     next_look: u32,
     /// Whether a call at the query socket waits a moment: while no report comes.
     is_patient: bool,
@@ -78,7 +75,7 @@ impl Sockets {
             poll,
             events,
             queries: 0,
-            next_look: FEW_QUERIES,
+            next_look: MAX_QUERIES,
             is_patient: true,
             is_reported: false,
             is_watched: true,
@@ -99,8 +96,8 @@ impl Sockets {
 
     /// The next datagram of either socket, or Quiet.
     ///
-    /// A query goes first, but after 64 of them at most a report does, and while reports are there
-    /// behind each: so neither socket waits for ever.
+    /// A query goes first, but after 32 of them a report does, and while reports are there behind
+    /// each: so neither socket waits for ever.
     pub(crate) fn next(&mut self, into: &mut [u8]) -> io::Result<Arrival>
         ensures within { IfOk result (λ a. octets_given a ≤ length into.old) }
         ensures open { IfOk result HasNotFailed }
@@ -115,7 +112,6 @@ impl Sockets {
             return Ok(arrival);
         }
         self.queries = 0;
-        self.next_look = self.next_look.min(FEW_QUERIES);
         self.watch()?;
         self.wait(into)
     }
@@ -130,20 +126,19 @@ impl Sockets {
         self.queries = 0;
         let found = self.report(into)?;
         if found.is_none() {
-            self.next_look = later(self.next_look);
+            self.next_look = MAX_QUERIES;
             self.look_away();
-            self.be_patient(true)?;
+            self.be_patient(true);
         }
         Ok(found)
     }
 
-    /// Has calls at the query socket wait a moment, or not.
-    fn be_patient(&mut self, is_patient: bool) -> io::Result<()> {
-        if self.is_patient != is_patient {
-            self.query.set_nonblocking(!is_patient)?;
+    /// Has calls at the query socket wait a moment, or not. Where the system refuses, they go on as
+    /// they did.
+    fn be_patient(&mut self, is_patient: bool) {
+        if self.is_patient != is_patient && self.query.set_nonblocking(!is_patient).is_ok() {
             self.is_patient = is_patient;
         }
-        Ok(())
     }
 
     /// Has the system tell of queries: also of one that is there already.
@@ -192,10 +187,12 @@ impl Sockets {
             self.is_reported = self.is_told(REPORT);
             if self.is_reported {
                 self.next_look = 0;
+                self.be_patient(false);
             }
             if self.is_told(QUERY)
                 && let Some(arrival) = self.query(into)?
             {
+                self.queries = 1;
                 return Ok(arrival);
             }
         }
@@ -233,7 +230,7 @@ impl Sockets {
         match self.report.recv_from(into) {
             Ok((n, _)) => {
                 self.next_look = 1;
-                self.be_patient(false)?;
+                self.be_patient(false);
                 Ok(Some(Arrival::Report(n)))
             }
             Err(error) if is_none_there(&error) => Ok(None),
@@ -250,18 +247,12 @@ fn query_socket(net: &impl Net, port: u16) -> io::Result<UdpSocket> {
     Ok(socket)
 }
 
-/// Has the system tell of what comes to a socket.
+/// Has the system tell of what comes to a socket. A call at a socket of which it told ends in any
+/// case: it doesn't wait, or a moment alone.
 fn register(poll: &Poll, socket: &UdpSocket, token: Token) -> io::Result<()> {
     let descriptor = socket.as_raw_fd();
     poll.registry()
         .register(&mut SourceFd(&descriptor), token, Interest::READABLE)
-}
-
-/// How many queries come before the next look, where the last one found no report.
-fn later(next_look: u32) -> u32
-    ensures { result ≤ 64 }
-{
-    next_look.saturating_mul(2).clamp(FEW_QUERIES, MAX_QUERIES)
 }
 
 /// Whether a call told that nothing is there: it would wait, or a signal ended its wait.
