@@ -1,6 +1,5 @@
 -- The first set that isn't for another country, where it settles the choice.
-use Rattle.std.proofs.Common.{◌≡◌, ◌≤◌, ◌+◌, ℕ, List, [], ◌∷◌, Option, Some, None, Bool, true, arith, length, refl, sym, ap, ◌∙◌}
-use Rattle.std.proofs.Common.{subst}
+use Rattle.std.proofs.Common.{◌≡◌, ◌≤◌, ◌+◌, ℕ, List, [], ◌∷◌, Option, Some, Bool, true, arith, length, take, refl, sym, ap, ◌∙◌}
 use Rattle.std.proofs.lemmas.List.{length-map}
 use Rattle.std.proofs.lemmas.Slice.Eq.{bytes_eq-Decides}
 use Rattle.std.specs.Prelude.{cond, slice_get, ◌++◌}
@@ -14,8 +13,8 @@ use Rattle.geo_latency.specs.declared.location.Location.{Location}
 use Rattle.routing.specs.declared.policies.Place.{Place}
 use Rattle.routing.specs.declared.policies.Place.TheVariants.{Country}
 use Rattle.zone_table.specs.RecordSetRecord.{RecordSet}
-use Rattle.policy_select.specs.Nearby.{AreForOthers, IsSettled, Settles, noted}
-use Rattle.policy_select.proofs.Nearby.{all_are_enough, chosen_noted, none_noted, noted_on, passed_to}
+use Rattle.policy_select.specs.Nearby.{AreForOthers, AreNoted, SettlesAt, Settles, noted}
+use Rattle.policy_select.proofs.Nearby.{chosen_noted, noted_on}
 use Rattle.policy_select.proofs.Noted.{said_at}
 use Rattle.policy_select.proofs.Settled.{settled}
 
@@ -37,16 +36,18 @@ alone client place (told, code, is, none, its, place_is) =
     ∙ ap (λ (p : Place). chosen (p ∷ []) (true ∷ []) (Some told)) place_is
     ∙ told_alone told code its
 
--- it is chosen among all
+-- behind sets of which none is noted it is chosen among all
 pub first_settled : (client : Option Location) (country : ℕ) → country ≡ wanted client → (first : Place)
-    (group : List RecordSet) (flags : List Bool) → length flags ≡ length group → (i : ℕ)
-    → AreForOthers country first group 0 i → IsSettled client first group i → slice_get flags i ≡ Some true
+    (group : List RecordSet) (flags : List Bool) → length flags ≡ length group → (from i : ℕ) → from ≤ i
+    → AreForOthers country first group from i
+    → AreNoted client (take from (each place_of first group)) (take from flags) [] [] []
+    → SettlesAt client first group i → slice_get flags i ≡ Some true
     → Some i ≡ chosen (each place_of first group) flags client
-first_settled client country is first group flags many i others (place, settles, (set, at, says)) healthy =
+first_settled client country is first group flags many from i low others so_far (place, settles, (set, at, says)) healthy =
     let places = each place_of first group in
     let noted_all =
-    noted_on client country is first group flags many (place ∷ []) (true ∷ []) (i ∷ []) 0 0 i set place true at
-    (sym says) healthy (omega arith) (omega arith) (omega arith) (omega arith) others (none_noted client) in
+    noted_on client country is first group flags many (place ∷ []) (true ∷ []) (i ∷ []) 0 from i set place true at
+    (sym says) healthy (omega arith) (omega arith) (omega arith) low others so_far in
     chosen_noted client places flags (place ∷ []) (true ∷ []) (i ∷ []) (chosen (place ∷ []) (true ∷ []) client)
     (Some i) (
       i + 1,
@@ -57,13 +58,3 @@ first_settled client country is first group flags many i others (place, settles,
     )
     refl
     (sym (ap (option_map (noted (i ∷ []))) (alone client place settles)))
-
--- where all are for other countries, none is chosen
-pub none_near : (client : Option Location) (country : ℕ) → country ≡ wanted client → (first : Place)
-    (group : List RecordSet) (flags : List Bool) → length flags ≡ length group → (m : ℕ) → length group ≤ m
-    → AreForOthers country first group 0 m → None ≡ chosen (each place_of first group) flags client
-none_near client country is first group flags many m few others =
-    chosen_noted client (each place_of first group) flags [] [] [] None None
-    (all_are_enough client country is first group flags many [] [] [] 0 m few
-    (passed_to client country is first group flags many [] [] [] 0 0 m (omega arith) others (none_noted client)))
-    refl refl

@@ -2,7 +2,7 @@
 use Rattle.std.proofs.Common.{◌≡◌, ℕ, zero, suc, ◌+◌, ◌≤◌, ◌<◌, List, [], ◌∷◌, ◌++◌, length, take, drop}
 use Rattle.std.proofs.Common.{Option, None, Some, refl, sym, ap, ◌∙◌, arith, append_assoc, length-append, length-take, ◌-◌}
 use Rattle.std.specs.Prelude.{IfSome, SomeIff}
-use Rattle.std.proofs.lemmas.List.{drop-take, take-take}
+use Rattle.std.proofs.lemmas.List.{drop-take, take-append-drop, take-take}
 use Rattle.std.proofs.Math.ListN.{get_or}
 use Rattle.std.proofs.Math.Seq.{drop-append_seam, take-append_seam}
 use Rattle.octets.specs.Numbers.{two_octets}
@@ -158,6 +158,10 @@ cut_behind octets all n place is within =
     let cut = length-take n all in
     let whole : n ≡ place + (n - place) = omega (arith, size, cut, within) in
     ap (drop place) is ∙ ap (λ (k : ℕ). drop place (take k all)) whole ∙ drop-take place (n - place) all
+
+-- a list in two parts, of which the second is told
+pub joined : (k : ℕ) (all told : List ℕ) → drop k all ≡ told → all ≡ take k all ++ told
+joined k all told is = sym (take-append-drop k all) ∙ ap (λ (xs : List ℕ). take k all ++ xs) is
 
 -- What the front of a policy tells of its identifier: that it has so many octets, where the policy is of this
 -- kind.

@@ -1,6 +1,6 @@
 -- The sets of a geolocation group that may apply to a client, and those that are for another country.
 use Rattle.std.specs.Prelude.{◌≡◌, ◌≢◌, ◌<◌, ◌≤◌, ℕ, Bool, false, Option, Some, None, List, [], ◌∷◌, length, map}
-use Rattle.std.specs.Prelude.{slice_get, take}
+use Rattle.std.specs.Prelude.{slice_get, take, ⊤}
 use Rattle.std.specs.Option.{option_map, unwrap_or}
 use Rattle.std.proofs.Math.ListN.{get_or}
 use Rattle.answer_model.specs.Policies.{place_of}
@@ -11,6 +11,8 @@ use Rattle.geo_latency.specs.declared.location.Location.{Location}
 use Rattle.routing.specs.declared.policies.Place.{Place}
 use Rattle.routing.specs.declared.policies.Place.TheVariants.{Country}
 use Rattle.zone_table.specs.RecordSetRecord.{RecordSet}
+use Rattle.policy_select.specs.declared.lists.Walked.{Walked}
+use Rattle.policy_select.specs.declared.lists.Walked.TheVariants.{Found, Full, Listed}
 
 -- a place of a group, by its number among the noted sets
 abbrev pub noted : (sets : List ℕ) → ℕ → ℕ
@@ -81,8 +83,8 @@ Settles client place =
     × (told.country ≡ Some code) × (place ≡ Country code)
 
 -- The set at a place of some is for the client's country, of which no subdivision is told.
-abbrev pub IsSettled : Option Location → (first : Place) → List RecordSet → (i : ℕ) → Type 0
-IsSettled client first sets i = (place : Place) × Settles client place × HasPlace place first sets i
+abbrev pub SettlesAt : Option Location → (first : Place) → List RecordSet → (i : ℕ) → Type 0
+SettlesAt client first sets i = (place : Place) × Settles client place × HasPlace place first sets i
 
 -- The choice among the first sets is that among all of them.
 abbrev pub FirstDecide : Option Location → List Place → List Bool → (n : ℕ) → Type 0
@@ -95,3 +97,14 @@ abbrev pub IsEnough : Option Location → List Place → List Bool → (near : L
 IsEnough client places flags near healthy sets =
     (n : ℕ) × AreNoted client (take n places) (take n flags) near healthy sets
     × FirstDecide client places flags n
+
+-- what holds of a walk's set where one is chosen, and of the number that is noted
+abbrev pub OnFound : Walked → (ℕ → Type 0) → Type 0
+OnFound (Found set) holds = holds set
+OnFound (Listed count) holds = ⊤
+OnFound Full holds = ⊤
+
+abbrev pub OnListed : Walked → (ℕ → Type 0) → Type 0
+OnListed (Found set) holds = ⊤
+OnListed (Listed count) holds = holds count
+OnListed Full holds = ⊤

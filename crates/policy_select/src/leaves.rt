@@ -12,19 +12,18 @@ ghost use Rattle.answer_model.specs.Regions.{chosen as region_chosen};
 ghost use Rattle.multivalue.specs.Answer.{picked};
 ghost use Rattle.multivalue.specs.Choice.{chosen as several_chosen};
 ghost use Rattle.weighted.specs.Choice.{chosen as weight_chosen};
-ghost use Rattle.geo_latency.specs.Nearest.{wanted};
 ghost use Rattle.zone_table.specs.Looking.{IsGroupNow};
 ghost use Rattle.policy_select.specs.Members.{AreMembers, PoliciesAreAt};
-ghost use Rattle.policy_select.specs.Nearby.{AreForOthers, noted};
+ghost use Rattle.policy_select.specs.Nearby.{noted};
 ghost use Rattle.policy_select.specs.Groups.{flags_in, sets_in};
 ghost use Rattle.policy_select.specs.Rules.{FirstSays};
 
 use crate::client::{latencies_of, location_of};
 use crate::lists::{
-    is_settled, next_near, note_healthy, note_locations, note_near, note_regions, note_roles,
-    note_slowness, note_weights,
+    Walked, note_healthy, note_locations, note_near, note_regions, note_roles, note_slowness,
+    note_weights,
 };
-use crate::near::{country_of, nearby_decide};
+use crate::near::nearby_decide;
 use crate::soonest::soonest;
 use crate::view::HealthView;
 use address_text::IpAddress;
@@ -116,63 +115,6 @@ pub(crate) fn choose_place<V: HealthView>(
     ensures scope { result.1 ≡ scope_in tables.now.places client }
 {
     let (location, scope) = location_of(tables, client);
-    (nearest_set(zones, group, view, first, location, at), scope)
-}
-
-/// Chooses from a geolocation group by the location of the client.
-///
-/// Most clients are in a country of which no subdivision is told, and the first set that isn't for
-/// another country is a healthy one for theirs: it is chosen where the walk comes to it.
-#[inline(always)]
-fn nearest_set<V: HealthView>(
-    zones: &Zones,
-    group: Group,
-    view: &V,
-    first: &Place,
-    location: Option<&Location>,
-    at: usize,
-) -> Option<usize>
-    requires group { IsGroupNow zones.now.zones group }
-    requires at { PoliciesAreAt (sets_in zones.now.zones group) at }
-    requires few { group.length ≤ 100 }
-    ensures { result
-        ≡ place_chosen (each place_of first.now (sets_in zones.now.zones group))
-        (flags_in zones.now.zones (V.test view.now) group) (option_copied location.entry) }
-{
-    let slots = zones.slots_of(group);
-    let country = country_of(location);
-    let near = match next_near(zones, &group, slots, at, 0, country) {
-        Some(near) => near,
-        None => return None,
-    };
-    if is_settled(zones, group, slots, view, at, near, location) {
-        return Some(near);
-    }
-    place_from(zones, group, view, first, location, at, near)
-}
-
-/// The same where all sets up to a place are for other countries.
-// Apart, so that most choices pass by the room for places.
-#[inline(never)]
-fn place_from<V: HealthView>(
-    zones: &Zones,
-    group: Group,
-    view: &V,
-    first: &Place,
-    location: Option<&Location>,
-    at: usize,
-    near: usize,
-) -> Option<usize>
-    requires group { IsGroupNow zones.now.zones group }
-    requires at { PoliciesAreAt (sets_in zones.now.zones group) at }
-    requires few { group.length ≤ 100 }
-    requires within { near ≤ group.length }
-    requires passed { AreForOthers (wanted (option_copied location)) first.now
-        (sets_in zones.now.zones group) 0 near }
-    ensures { result
-        ≡ place_chosen (each place_of first.now (sets_in zones.now.zones group))
-        (flags_in zones.now.zones (V.test view.now) group) (option_copied location.entry) }
-{
     let nearest = nearest_place(
         zones,
         group,
@@ -180,15 +122,17 @@ fn place_from<V: HealthView>(
         first,
         location,
         at,
-        near,
         // Of zeros, which are made at once.
         &mut [Place::Continent(Continent::Af); NEAR],
         &mut [false; NEAR],
         &mut [0; NEAR],
     );
     match nearest {
-        Some(set) => set,
-        None => place_of_many(zones, group, view, first, location, at, near),
+        Some(set) => (set, scope),
+        None => (
+            place_of_many(zones, group, view, first, location, at),
+            scope,
+        ),
     }
 }
 
@@ -202,14 +146,10 @@ fn place_of_many<V: HealthView>(
     first: &Place,
     location: Option<&Location>,
     at: usize,
-    near: usize,
 ) -> Option<usize>
     requires group { IsGroupNow zones.now.zones group }
     requires at { PoliciesAreAt (sets_in zones.now.zones group) at }
     requires few { group.length ≤ 100 }
-    requires within { near ≤ group.length }
-    requires passed { AreForOthers (wanted (option_copied location)) first.now
-        (sets_in zones.now.zones group) 0 near }
     ensures { result
         ≡ place_chosen (each place_of first.now (sets_in zones.now.zones group))
         (flags_in zones.now.zones (V.test view.now) group) (option_copied location.entry) }
@@ -221,7 +161,6 @@ fn place_of_many<V: HealthView>(
         first,
         location,
         at,
-        near,
         &mut [Place::Continent(Continent::Af); GROUP],
         &mut [false; GROUP],
         &mut [0; GROUP],
@@ -242,16 +181,12 @@ fn nearest_place<V: HealthView>(
     first: &Place,
     location: Option<&Location>,
     at: usize,
-    near: usize,
     places: &mut [Place],
     healthy: &mut [bool],
     sets: &mut [usize],
 ) -> Option<Option<usize>>
     requires group { IsGroupNow zones.now.zones group }
     requires at { PoliciesAreAt (sets_in zones.now.zones group) at }
-    requires within { near ≤ group.length }
-    requires passed { AreForOthers (wanted (option_copied location)) first.now
-        (sets_in zones.now.zones group) 0 near }
     requires healthy { length places.old ≤ length healthy.old }
     requires sets { length places.old ≤ length sets.old }
     ensures nearest { IfSome result (λ set. set
@@ -261,10 +196,12 @@ fn nearest_place<V: HealthView>(
 {
     nearby_decide();
     let slots = zones.slots_of(group);
-    let Some(count) = note_near(
-        zones, group, slots, view, at, near, first, location, places, healthy, sets,
-    ) else {
-        return None;
+    let count = match note_near(
+        zones, group, slots, view, at, first, location, places, healthy, sets,
+    ) {
+        Walked::Found(set) => return Some(Some(set)),
+        Walked::Listed(count) => count,
+        Walked::Full => return None,
     };
     let nearest = answer_model::choose_place(&places[..count], &healthy[..count], location);
     Some(place_noted(nearest, &sets[..count]))

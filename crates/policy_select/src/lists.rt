@@ -1,15 +1,17 @@
 //! What the sets of a group say, set by set, as lists for the choices. What the first set says is
 //! known where it tells the policy.
 
-ghost use Rattle.std.specs.Prelude.{◌≡◌, ◌<◌, ◌≤◌, IfSome, IsSome, IsTrue, Some, length, slice_get, take, true};
+ghost use Rattle.std.specs.Prelude.{◌≡◌, ◌<◌, ◌≤◌, IfSome, IsSome, IsTrue, Some, length, take};
+ghost use Rattle.std.specs.Prelude.{◌≢◌, slice_get, true};
 ghost use Rattle.answer_model.specs.Choice.{each};
 ghost use Rattle.answer_model.specs.Policies.{location_of, place_of, region_of, role_of, weight_of};
-ghost use Rattle.geo_latency.specs.Nearest.{wanted};
+ghost use Rattle.geo_latency.specs.Places.{chosen};
 ghost use Rattle.zone_table.specs.Looking.{IsGroupNow, slots_in};
 ghost use Rattle.std.specs.Option.{option_copied, unwrap_or};
 ghost use Rattle.routing.specs.declared.policies.Place.{Place};
 ghost use Rattle.policy_select.specs.Members.{AreMembers};
-ghost use Rattle.policy_select.specs.Nearby.{AreForOthers, IsEnough, IsSettled};
+ghost use Rattle.policy_select.specs.Nearby.{AreForOthers, IsEnough, OnListed, OnFound, SettlesAt};
+ghost use Rattle.policy_select.specs.declared.lists.Walked.TheVariants as walked;
 ghost use Rattle.policy_select.specs.Groups.{flags_in, sets_in};
 ghost use Rattle.policy_select.specs.Rules.{FirstSays};
 ghost use Rattle.policy_select.specs.Soonest.{slow_each};
@@ -99,7 +101,7 @@ pub(crate) fn note_roles(
 /// long, it may be for another country too.
 // Nothing is written and nobody asked in this walk, so that where the sets stand is loaded once.
 #[inline(always)]
-pub(crate) fn next_near(
+fn next_near(
     zones: &Zones,
     group: &Group,
     slots: &[u32],
@@ -122,11 +124,23 @@ pub(crate) fn next_near(
     None
 }
 
-/// Whether the set at a place of a geolocation group is chosen whatever sets stand behind it: it is
-/// healthy and for the client's country, of which no subdivision is told. Where its identifier is
-/// long this isn't told here.
+/// What a walk over a geolocation group comes to.
+#[derive(Clone, Copy)]
+pub(crate) enum Walked {
+    /// The set at this place is chosen.
+    Found(usize),
+    /// So many sets are noted, among which the choice is.
+    Listed(usize),
+    /// More sets may apply than there is room for.
+    Full,
+}
+
+/// Whether the set at a place of a geolocation group, before which so many are noted, is chosen: none
+/// is noted, and it is a healthy one for the client's country, of which no subdivision is told. Where
+/// its identifier is long this isn't told here.
 #[inline(always)]
-pub(crate) fn is_settled<V: HealthView>(
+fn settles_at<V: HealthView>(
+    count: usize,
     zones: &Zones,
     group: Group,
     slots: &[u32],
@@ -138,11 +152,15 @@ pub(crate) fn is_settled<V: HealthView>(
     requires group { IsGroupNow zones.now.zones group }
     requires slots { AreMembers zones.now.zones group slots.now at }
     requires within { i < group.length }
+    ensures none { IsTrue result → count ≡ 0 }
     ensures healthy { IsTrue result
         → slice_get (flags_in zones.now.zones (V.test view.now) group) i ≡ Some true }
     ensures settled { IsTrue result → (first : Place)
-        → IsSettled (option_copied client.entry) first (sets_in zones.now.zones group) i }
+        → SettlesAt (option_copied client.entry) first (sets_in zones.now.zones group) i }
 {
+    if count > 0 {
+        return false;
+    }
     let Some(code) = settling_code(client) else {
         return false;
     };
@@ -152,51 +170,52 @@ pub(crate) fn is_settled<V: HealthView>(
     is_member_healthy(zones, group, slots, view, i)
 }
 
-/// Notes of a geolocation group, from a place on up to which all sets are for other countries, the
-/// sets that may apply to the client, which a set for another
+/// Notes of a geolocation group the sets that may apply to the client, which a set for another
 /// country doesn't: their places, which of them are healthy, and where they stand in the group; up to
-/// one that is chosen whatever stands behind it. The answer is how many they are, and none where there
-/// is no room for them. Nobody is asked for the health of the others.
+/// one that is chosen whatever stands behind it. Where that is the first that may apply it is the
+/// answer, and not noted. Nobody is asked for the health of the others.
 pub(crate) fn note_near<V: HealthView>(
     zones: &Zones,
     group: Group,
     slots: &[u32],
     view: &V,
     at: usize,
-    near: usize,
     first: &Place,
     client: Option<&Location>,
     places: &mut [Place],
     healthy: &mut [bool],
     sets: &mut [usize],
-) -> Option<usize>
+) -> Walked
     requires group { IsGroupNow zones.now.zones group }
     requires slots { AreMembers zones.now.zones group slots.now at }
-    requires within { near ≤ group.length }
-    requires passed { AreForOthers (wanted (option_copied client)) first.now
-        (sets_in zones.now.zones group) 0 near }
     requires healthy { length places.old ≤ length healthy.old }
     requires sets { length places.old ≤ length sets.old }
-    ensures noted { IfSome result (λ count. IsEnough (option_copied client.entry)
+    ensures found { OnFound result (λ set. Some set
+        ≡ chosen (each place_of first.now (sets_in zones.now.zones group))
+        (flags_in zones.now.zones (V.test view.now) group) (option_copied client.entry)) }
+    ensures noted { OnListed result (λ count. IsEnough (option_copied client.entry)
         (each place_of first.now (sets_in zones.now.zones group))
         (flags_in zones.now.zones (V.test view.now) group)
         (take count places.new) (take count healthy.new) (take count sets.new)) }
-    ensures count { IfSome result (λ count. count ≤ length places.new) }
-    ensures room { group.length ≤ length places.old → IsSome result }
+    ensures count { OnListed result (λ count. count ≤ length places.new) }
+    ensures room { group.length ≤ length places.old → result ≢ walked.Full }
     ensures places { length places.new ≡ length places.old }
     ensures healthy { length healthy.new ≡ length healthy.old }
     ensures sets { length sets.new ≡ length sets.old }
 {
     let country = country_of(client);
     let mut count = 0;
-    let mut from = near;
+    let mut from = 0;
     while let Some(i) = next_near(zones, &group, slots, at, from, country) {
+        if settles_at(count, zones, group, slots, view, at, i, client) {
+            return Walked::Found(i);
+        }
         from = i + 1;
         let Some(place) = near_place_of_member(zones, &group, slots, at, i, first, country) else {
             continue;
         };
         if count == places.len() {
-            return None;
+            return Walked::Full;
         }
         let is_healthy = is_member_healthy(zones, group, slots, view, i);
         places[count] = place;
@@ -204,10 +223,10 @@ pub(crate) fn note_near<V: HealthView>(
         sets[count] = i;
         count += 1;
         if settles(is_healthy, client, &place) {
-            return Some(count);
+            return Walked::Listed(count);
         }
     }
-    Some(count)
+    Walked::Listed(count)
 }
 
 /// Notes the regions of a group.

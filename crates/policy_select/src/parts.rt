@@ -143,7 +143,41 @@ pub(crate) fn is_other_country(octets: &[u8], at: u8, country: u32) -> bool
     if octets.len() < at + 3 {
         return false;
     }
+    is_other_at(octets, at, country)
+}
+
+/// The same where so much is there as a country takes.
+#[inline(always)]
+fn is_other_at(octets: &[u8], at: usize, country: u32) -> bool
+    requires within { at + 3 ≤ length octets.now }
+    ensures { (ident rest : List ℕ) (place : Place) (n : ℕ) → IsPlace place → at ≡ length ident
+        → octets.now ≡ take n (ident ++ (place_octets place ++ rest)) → IsTrue result
+        → IsOtherCountry country place }
+{
     octets[at] == 2 && code_number(octets[at + 1], octets[at + 2]) != country
+}
+
+/// Whether a place behind the identifier, of so many octets, of a policy of which the beginning is
+/// there in two parts, one behind the other, is a country other than the one of this number. Where it
+/// goes over the end of a part this isn't told.
+#[inline(always)]
+pub(crate) fn is_other_behind(octets: &[u8], next: &[u8], size: u8, country: u32) -> bool
+    ensures { (all rest : List ℕ) (place : Place) (n : ℕ) → octets.now ++ next.now ≡ take n all
+        → IsPlace place → drop (size + 2) all ≡ place_octets place ++ rest → IsTrue result
+        → IsOtherCountry country place }
+{
+    let place = usize::from(size) + 2;
+    if place + 3 <= octets.len() {
+        return is_other_at(octets, place, country);
+    }
+    if place < octets.len() {
+        return false;
+    }
+    let place = place - octets.len();
+    if place + 3 > next.len() {
+        return false;
+    }
+    is_other_at(next, place, country)
 }
 
 /// Whether the place at the front is the country of this code.

@@ -18,7 +18,7 @@ ghost use Rattle.routing.specs.declared.policies.Place.TheVariants.{Country};
 
 use crate::group::{MOST, policy_copied, policy_pieces};
 use crate::parts::{
-    behind_ident, has_text, ident_size, is_country_in, is_elsewhere_in, is_other_country,
+    behind_ident, has_text, ident_size, is_country_in, is_elsewhere_in, is_other_behind,
     octet_behind, place_in, place_whole, region_in, region_whole, role_behind, role_in, text_front,
     weight_in,
 };
@@ -139,7 +139,7 @@ pub(crate) fn is_passed_by(
     let Some(size) = ident_size(front, 3) else {
         return false;
     };
-    is_other_country(behind_ident(front, next, size), 0, country)
+    is_other_behind(front, next, size, country)
 }
 
 /// Whether the set at a place of a group is for the country of this code. Where its identifier is long

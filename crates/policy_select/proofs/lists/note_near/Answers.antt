@@ -1,34 +1,18 @@
-use Rattle.std.proofs.Common.{◌≡◌, ◌+◌, ◌∙◌, Bool, Some, arith, length-set, refl, sym, subst}
+use Rattle.std.proofs.Common.{◌≡◌, ◌+◌, ◌∙◌, Bool, Some, arith, length-set, refl, sym, subst, take}
 use Rattle.std.proofs.lemmas.List.{length-map}
 use Rattle.std.specs.Prelude.{slice_get}
 use Rattle.std.specs.Option.{option_copied, unwrap_or}
 use Rattle.answer_model.specs.Choice.{each}
 use Rattle.answer_model.specs.Policies.{place_of}
-use Rattle.geo_latency.specs.Nearest.{wanted}
 use Rattle.zone_table.specs.RecordSetRecord.{RecordSet}
 use Rattle.policy_select.specs.Groups.{flags_in, sets_in}
-use Rattle.policy_select.specs.Nearby.{TellsNear}
+use Rattle.policy_select.specs.Nearby.{AreNoted, TellsNear}
 use Rattle.policy_select.proofs.Choosing.{same_length}
-use Rattle.policy_select.proofs.Nearby.{all_are_enough, elsewhere, none_noted, noted_on, passed_to, set_passed}
+use Rattle.policy_select.proofs.Front.{first_settled}
+use Rattle.policy_select.proofs.Nearby.{all_are_enough, elsewhere, noted_on, passed_to, set_passed}
 use Rattle.policy_select.proofs.Noted.{few_sets, said_at}
 use Rattle.policy_select.proofs.Settled.{settled}
 use Rattle.policy_select.proofs.lists.note_near.Goals as goal
-
-pub loop-i-init : goal.loop-i-init
-loop-i-init g c =
-    let client = option_copied c.args.client in
-    let first = c.args.first.now in
-    let sets = sets_in c.args.zones.now.zones c.args.group in
-    let test = g.V.HealthView.test c.args.view.now in
-    let flags = flags_in c.args.zones.now.zones test c.args.group in
-    let many = same_length c.args.zones.now.zones test c.args.group in
-    record {
-      within = c.requires.within;
-      few = omega arith;
-      room = omega arith;
-      noted = passed_to client (wanted client) refl first sets flags many c.args.places.now c.args.healthy.now
-          c.args.sets.now 0 0 c.args.near (omega arith) c.requires.passed (none_noted client);
-    }
 
 pub loop-i-smaller-in_default-near_place_of_member : goal.loop-i-smaller-in_default-near_place_of_member
 loop-i-smaller-in_default-near_place_of_member g c =
@@ -109,6 +93,25 @@ loop-i-preserved g c =
       room = omega (arith, room, more, size);
       noted = noted;
     }
+
+pub returns-then-settles_at-clause-found : goal.returns-then-settles_at-clause-found
+returns-then-settles_at-clause-found g c =
+    let client = option_copied c.args.client in
+    let first = c.args.first.now in
+    let sets = sets_in c.args.zones.now.zones c.args.group in
+    let test = g.V.HealthView.test c.args.view.now in
+    let flags = flags_in c.args.zones.now.zones test c.args.group in
+    let l = c.loop-i in
+    let many = same_length c.args.zones.now.zones test c.args.group in
+    let i = c.in-Some.i in
+    let none = c.settles_at.ensures.none c.if-settles_at.true in
+    first_settled client c.country_of-country.result c.country_of-country.ensures first sets flags many l.from i
+    c.in-Some.ensures.found.0 (c.in-Some.ensures.passed first)
+    (subst
+    (λ n. AreNoted client (take l.from (each place_of first sets)) (take l.from flags) (take n l.places)
+    (take n l.healthy) (take n l.sets)) none l.invariant.noted)
+    (c.settles_at.ensures.settled c.if-settles_at.true first)
+    (c.settles_at.ensures.healthy c.if-settles_at.true)
 
 pub returns-then-settles-clause-noted : goal.returns-then-settles-clause-noted
 returns-then-settles-clause-noted g c =

@@ -1,4 +1,4 @@
-use Rattle.std.proofs.Common.{ℕ, ◌≡◌, ◌≤◌, ◌<◌, ◌+◌, ◌-◌, ◌++◌, ◌∙◌, ap, arith, drop, take, length, length-append, sym}
+use Rattle.std.proofs.Common.{ℕ, ◌≡◌, ◌+◌, ◌-◌, ◌++◌, ◌∙◌, ap, arith, drop, take, length, length-append, sym}
 use Rattle.std.proofs.Math.Seq.{drop-append-add}
 use Rattle.policy_select.proofs.Pieces.{cut_behind, front_cut}
 use Rattle.policy_select.proofs.parts.behind_ident.Goals as goal

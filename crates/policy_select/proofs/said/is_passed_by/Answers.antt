@@ -1,7 +1,8 @@
-use Rattle.std.proofs.Common.{[], ap, refl, subst, sym}
+use Rattle.std.proofs.Common.{◌++◌, ap, length, subst, sym}
 use Rattle.std.specs.Option.{unwrap_or}
+use Rattle.zone_table.specs.Octets.{routing_octets}
 use Rattle.policy_select.specs.Nearby.{IsOtherCountry}
-use Rattle.policy_select.proofs.Pieces.{place_by}
+use Rattle.policy_select.proofs.Pieces.{front_cut, place_there}
 use Rattle.policy_select.proofs.said.is_passed_by.Goals as goal
 
 pub returns : goal.returns
@@ -9,11 +10,13 @@ returns c told first =
     let set = c.policy_pieces.ensures in
     let front = c.policy_pieces.result.0.now in
     let next = c.policy_pieces.result.1.now in
-    let it = place_by front next c.behind_ident.result.now set.0 c.in-Some.size set.2
-    c.behind_ident.ensures c.in-Some.ensures in (
+    let of = set.2 in
+    let all = routing_octets set.0.routing ++ of.rest in
+    let size = c.in-Some.ensures all (length front) (front_cut front next all of.size of.same) in
+    let it = place_there set.0.routing of.rest of.rest c.in-Some.size of.is size in (
       set.0,
       set.1,
       subst (λ p. IsOtherCountry c.args.country p)
-          (sym (ap (λ o. unwrap_or o first) it.2))
-          (c.is_other_country.ensures [] set.2.rest it.0 it.1 it.3 refl it.4 told),
+          (sym (ap (λ o. unwrap_or o first) it.1))
+          (c.is_other_behind.ensures all of.rest it.0 of.size of.same it.2 it.3 told),
     )
