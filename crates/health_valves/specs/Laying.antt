@@ -21,7 +21,7 @@ pub record HasRoomFor (valves : Valves) (size links : ℕ) : Type 0 where
   pub cone : size ≤ vec_capacity valves.cone
   pub marks : size ≤ vec_capacity valves.marks
 
--- so does one valve more with so many links
+-- so can one valve more with so many links
 pub record HasRoomForOne (valves : Valves) (links : ℕ) : Type 0 where
   pub valve : HasRoomFor valves (size_of valves + 1) 0
   pub links_room : links ≤ valves.feeds.room

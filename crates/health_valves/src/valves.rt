@@ -526,6 +526,9 @@ impl Valves {
         ensures meet { (net : Net) (own : ℕ → ℕ) → ValvesStandFor net own self.old
             → MeetAll net own self.old
             → MeetAll (with_one_more (fed_condition feeders.now) net) (with_own net.size 0 own) self.new }
+        ensures values { (n : ℕ) → n < size_of self.old → value_of self.new n ≡ value_of self.old n }
+        ensures size { size_of self.new ≡ size_of self.old + 1 }
+        ensures links { links_of self.new ≡ links_of self.old + length feeders.now }
         ensures room { (n m : ℕ) → HasRoomFor self.old n m → HasRoomFor self.new n m }
     {
         let valve = self.feeds.len() as u32;

@@ -40,6 +40,26 @@ returns-clause-fits c net own f =
       room = omega (arith, cone, size);
     }
 
+pub returns-clause-values : goal.returns-clause-values
+returns-clause-values c n within =
+    let s = c.args.self.now in
+    let size = c.requires.ready.2.laid.size in
+    let long = c.requires.ready.2.values in
+    value_kept s.values.items c.push_reserved-2.new.self.items c.is_open.result n c.push_reserved-2.ensures.items
+    (omega (arith, within, size, long))
+
+pub returns-clause-size : goal.returns-clause-size
+returns-clause-size c = long_more c.args.self.now.rows.items c.push_reserved.new.self.items _ _ c.push_reserved.ensures.items refl
+
+pub returns-clause-links : goal.returns-clause-links
+returns-clause-links c =
+    let few = c.len-valve.ensures.reversed.few_fed 0 in
+    let most = c.push_valve.ensures.most in
+    let room = c.push_valve.ensures.room in
+    let same = c.add_feeders.ensures.most in
+    let less = c.add_feeders.ensures.room in
+    omega (arith, few, most, room, same, less)
+
 pub returns-clause-meet : goal.returns-clause-meet
 returns-clause-meet c net own f meet n within =
     let s = c.args.self.now in
