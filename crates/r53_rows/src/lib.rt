@@ -4,8 +4,6 @@
 #[cfg(test)]
 mod drills;
 #[cfg(test)]
-mod edns;
-#[cfg(test)]
 mod faults;
 #[cfg(test)]
 mod lines;

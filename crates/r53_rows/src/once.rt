@@ -46,15 +46,10 @@ fn run_over(
 }
 
 /// What is asked, the packet, and the reply, both in hexadecimal digits.
-pub(crate) type Row = (&'static str, &'static str, &'static str);
+type Row = (&'static str, &'static str, &'static str);
 
 /// Whether a run answers this packet so, in whatever pieces it comes.
-pub(crate) fn answers(
-    alloc: Global,
-    texts: &[&str],
-    packet: &[u8],
-    reply: &[u8],
-) -> Result<bool, Fail> {
+fn answers(alloc: Global, texts: &[&str], packet: &[u8], reply: &[u8]) -> Result<bool, Fail> {
     for piece in [1, 7, 100] {
         let outcome = run_over(alloc, texts, packet, piece, &[], 600)?;
         if outcome.status != Status::Done || outcome.sink.bytes() != reply {
@@ -65,12 +60,7 @@ pub(crate) fn answers(
 }
 
 /// Runs over these words and the packets of the rows, and compares the replies.
-pub(crate) fn compare(
-    rt: &impl Abort,
-    alloc: Global,
-    texts: &[&str],
-    rows: &[Row],
-) -> Result<(), Fail> {
+fn compare(rt: &impl Abort, alloc: Global, texts: &[&str], rows: &[Row]) -> Result<(), Fail> {
     for (what, packet, reply) in rows {
         let packet = hex::decode(alloc, packet)?;
         let reply = hex::decode(alloc, reply)?;
@@ -79,7 +69,7 @@ pub(crate) fn compare(
     Ok(())
 }
 
-pub(crate) const WWW: [&str; 4] = ["once", "www.example.com", "300", "192.0.2.1"];
+const WWW: [&str; 4] = ["once", "www.example.com", "300", "192.0.2.1"];
 
 const ESCAPED: [&str; 4] = ["once", "\\127ww.Example.\\143om.", "300", "192.0.2.1"];
 
@@ -87,7 +77,18 @@ const ROOT: [&str; 4] = ["once", ".", "2147483647", "255.255.255.255"];
 
 #[test]
 fn answers_questions(rt: HostRuntime) -> Result<(), Fail> {
-    let www: [Row; 5] = [
+    let www: [Row; 7] = [
+        (
+            // as dig asks: 1,232 octets, and a cookie (code 10), which is skipped
+            "dig: AD beside RD, a cookie",
+            "12340120000100000000000103777777076578616d706c6503636f6d000001000100002904d000000000000c000a00080102030405060708",
+            "12348500000100010000000103777777076578616d706c6503636f6d0000010001c00c000100010000012c0004c00002010000291000000000000000",
+        ),
+        (
+            "another type, refused with an OPT record",
+            "12340120000100000000000103777777076578616d706c6503636f6d00001c000100002904d0000080000000",
+            "12348105000100000000000103777777076578616d706c6503636f6d00001c00010000291000000080000000",
+        ),
         (
             // id 0x1234, RD, one question: wWw.example.com. A IN; the reply repeats the question's octets
             "the record, asked in another case",
@@ -137,33 +138,12 @@ fn answers_questions(rt: HostRuntime) -> Result<(), Fail> {
 
 #[test]
 fn answers_nothing_or_a_header(rt: HostRuntime) -> Result<(), Fail> {
-    let rows: [Row; 12] = [
-        (
-            "a response with opcode 5",
-            "1234a900000100000000000003777777076578616d706c6503636f6d0000010001",
-            "",
-        ),
+    let rows: [Row; 4] = [
         (
             "opcode 5 with an authority record",
             "12342900000100000001000003777777076578616d706c6503636f6d0000010001",
             "1234a9040000000000000000",
         ),
-        (
-            "no question",
-            "12340100000000000000000003777777076578616d706c6503636f6d0000010001",
-            "123481010000000000000000",
-        ),
-        (
-            "an answer",
-            "12340100000100010000000003777777076578616d706c6503636f6d0000010001",
-            "123481010000000000000000",
-        ),
-        (
-            "an authority record",
-            "12340100000100000001000003777777076578616d706c6503636f6d0000010001",
-            "123481010000000000000000",
-        ),
-        ("eleven octets", "1234010000010000000000", ""),
         ("nothing", "", ""),
         (
             "a response",
@@ -171,23 +151,8 @@ fn answers_nothing_or_a_header(rt: HostRuntime) -> Result<(), Fail> {
             "",
         ),
         (
-            "opcode 5",
-            "12342900000100000000000003775777076578616d706c6503636f6d0000010001",
-            "1234a9040000000000000000",
-        ),
-        (
             "two questions",
             "12340100000200000000000003775777076578616d706c6503636f6d0000010001",
-            "123481010000000000000000",
-        ),
-        (
-            "a pointer in the question",
-            "123401000001000000000000c00c00010001",
-            "123481010000000000000000",
-        ),
-        (
-            "a question without a class",
-            "12340100000100000000000003775777076578616d706c6503636f6d00000100",
             "123481010000000000000000",
         ),
     ];
