@@ -27,7 +27,7 @@ use Rattle.reply_records.specs.Writing.{Writes}
 use Rattle.settled_replies.specs.Findings.{HasSections, RepliesToAll, RepliesToAllFrom, aa_of, rcode_of, reply_with}
 use Rattle.settled_replies.specs.declared.findings.Finding.{Finding}
 use Rattle.settled_replies.specs.declared.findings.Finding.TheVariants as finding
-use Rattle.settled_replies.specs.Plain.{ComesTo}
+use Rattle.settled_replies.specs.Alone.{ComesTo}
 
 -- ---- sections by what the name is in the zone
 

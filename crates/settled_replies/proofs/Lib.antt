@@ -1,5 +1,6 @@
-mod Alone
+mod Descending
 mod Answering
 mod Ids
 mod Lasting
+mod Cases
 pub mod Selected

@@ -23,8 +23,7 @@ use Rattle.settled_replies.specs.declared.findings.Finding.TheVariants as findin
 abbrev pub RepliesToAll : Served → Query → Message → Type 0
 RepliesToAll served query reply = (asker : Asker) → query_reply served asker query ≡ reply
 
--- From a zone it is answered with these sections whoever asks, but for what choices used, of which each one is told
--- this scope.
+-- From a zone it is answered with these sections whoever asks, but for what choices used, and each is told this scope.
 abbrev pub RepliesToAllFrom : Served → HostedZone → Query → Sections → (scope : ℕ) → Type 0
 RepliesToAllFrom served zone query found scope = (peer : IpAddress) (words : List ℕ) → (used : Used)
     × (sections (lookup_of served words query (client_of served peer query) zone) query.name

@@ -1,21 +1,25 @@
 //! What is found of a query to which the reply is the same whoever asks.
 
-ghost use Rattle.std.specs.Prelude.{◌≡◌, ◌≢◌, ◌<◌, [], IfSome, None, Some, ℕ, Bool};
+ghost use Rattle.std.specs.Prelude.{◌≡◌, ◌≢◌, ◌<◌, ◌↔◌, [], IfSome, IsSome, None, Some, ℕ, Bool};
 ghost use Rattle.dns_name.specs.Suffix.{EndsWith};
 ghost use Rattle.query_engine.specs.Asking.{served_by};
 ghost use Rattle.query_engine.specs.Looking.{IsApex};
-ghost use Rattle.query_engine.specs.Sections.{Sections, cut_above};
+ghost use Rattle.query_engine.specs.Sections.{Sections, asked_group, cut_above};
 ghost use Rattle.query_engine.specs.Served.{IsFound, zone_of};
 ghost use Rattle.record_set.specs.declared.sets.SetKey.{SetKey};
 ghost use Rattle.reply_records.specs.Groups.{Agrees};
+ghost use Rattle.rdata_layout.specs.declared.types.RType.TheVariants.{Cname};
+ghost use Rattle.settled_replies.specs.Settling.{CanSettleBelow, CanSettleSets};
 ghost use Rattle.settled_replies.specs.Findings.{HasSections, CanBeWritten, RepliesToAllFrom, aa_of, rcode_of, scope_with};
 ghost use Rattle.zone_lookup.specs.Names.{source};
 ghost use Rattle.zone_lookup.specs.Served.{AreServed};
 ghost use Rattle.zone_lookup.specs.Standing.{HasStanding};
 ghost use Rattle.zone_lookup.specs.ZonesOfZoneList.{placed_in};
+ghost use Rattle.zone_model.specs.Zones.{group};
 
-use crate::plain::scope_of_one;
+use crate::alone::scope_of_one;
 use dns_message::Query;
+use dns_message::rcode::NXDOMAIN;
 use dns_name::Name;
 use geo_latency::Tables;
 use query_engine::{HealthView, Scratch, Zones};
@@ -25,15 +29,12 @@ use zone_lookup::{
     standing_of, zones_are_longest,
 };
 
-/// NXDOMAIN (RFC 1035, 4.1.1).
-const NXDOMAIN: u16 = 3;
-
 /// What is found of a query, whoever asks.
 #[derive(Clone, Copy)]
 pub(crate) enum Finding {
     /// The set that is held, alone; and this scope is told.
     Set(u8),
-    /// The name exists, without a record that answers (RFC 2308, 2.2).
+    /// The name exists, without a set of the type, nor a CNAME set (RFC 2308, 2.2).
     NoData,
     /// The name doesn't exist (RFC 2308, 2.1).
     NoName,
@@ -61,6 +62,9 @@ pub(crate) fn finding_in<V: HealthView>(
         × ((healthy : (zone : ℕ) → SetKey → Bool) → Agrees zones.now.zones (V.test view.now) healthy
         → RepliesToAllFrom (served_by zones.now.zones zones.now.collections.list healthy tables.now)
         (zone_of zones.now.zones zone apex.now) query.now found (scope_with finding))) }
+    ensures exact { (healthy : (zone : ℕ) → SetKey → Bool) → Agrees zones.now.zones (V.test view.now) healthy
+        → (IsSome result ↔ CanSettleBelow (served_by zones.now.zones zones.now.collections.list healthy tables.now) query.now
+        (zone_of zones.now.zones zone apex.now) (cut_above (zone_of zones.now.zones zone apex.now) query.now.name)) }
 {
     zones_are_longest();
     known_few(zones, zone, apex);
@@ -119,6 +123,11 @@ fn finding_from<V: HealthView>(
         × ((healthy : (zone : ℕ) → SetKey → Bool) → Agrees zones.now.zones (V.test view.now) healthy
         → RepliesToAllFrom (served_by zones.now.zones zones.now.collections.list healthy tables.now)
         (zone_of zones.now.zones zone apex.now) query.now found (scope_with finding))) }
+    ensures exact { (healthy : (zone : ℕ) → SetKey → Bool) → Agrees zones.now.zones (V.test view.now) healthy
+        → (IsSome result ↔ CanSettleSets (served_by zones.now.zones zones.now.collections.list healthy tables.now) query.now
+        (zone_of zones.now.zones zone apex.now)
+        (asked_group (zone_of zones.now.zones zone apex.now).sets from.now query.now.qtype)
+        (group (zone_of zones.now.zones zone apex.now).sets from.now Cname)) }
 {
     known_few(zones, zone, apex);
     match asked_group(zones, zone, from, query.qtype) {
@@ -147,7 +156,7 @@ impl Finding {
         ensures most { result < 16 }
     {
         match self {
-            Finding::NoName => NXDOMAIN,
+            Finding::NoName => u16::from(NXDOMAIN),
             _ => 0,
         }
     }

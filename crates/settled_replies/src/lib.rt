@@ -1,12 +1,12 @@
-//! Replies that are the same whoever asks, but for the ID: those of a name by one set, of a name without a record that
-//! answers, of one that doesn't exist, and referrals.
+//! Replies that are the same whoever asks, but for the ID: those of a name by one set, of a name without a set of the
+//! type, of one that doesn't exist, and referrals.
 //!
 //! Whoever keeps such a reply needn't make it again, as long as the zones and the tables stay and no
 //! set becomes healthy or unhealthy.
 #![tactic(auto)]
 
+mod alone;
 mod findings;
-mod plain;
 mod settling;
 
 pub use query_engine::{HealthView, Scratch, Zones};

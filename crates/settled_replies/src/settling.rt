@@ -1,6 +1,6 @@
 //! The reply to a packet, where it is settled.
 
-ghost use Rattle.std.specs.Prelude.{◌≡◌, ◌≤◌, ℕ, Bool, None, Some, IfSome, drop, length};
+ghost use Rattle.std.specs.Prelude.{◌≡◌, ◌≤◌, ◌↔◌, ℕ, Bool, None, Some, IfSome, IsSome, drop, length};
 ghost use Rattle.dns_message.specs.Whole.{IsWhole};
 ghost use Rattle.dns_wire.specs.Limit.{limit_of as most_of};
 ghost use Rattle.dns_wire.specs.Message.{Message, octets_within};
@@ -8,17 +8,18 @@ ghost use Rattle.dns_wire.specs.declared.reply.Section.TheVariants.{Answer};
 ghost use Rattle.query_engine.specs.Adding.{WritesAll};
 ghost use Rattle.query_engine.specs.Asking.{served_by};
 ghost use Rattle.query_engine.specs.Reply.{is_refused};
-ghost use Rattle.query_engine.specs.Sections.{Sections};
+ghost use Rattle.query_engine.specs.Sections.{Sections, cut_above};
 ghost use Rattle.query_engine.specs.Served.{IsFound, hosted_of, zone_of};
 ghost use Rattle.record_set.specs.declared.sets.SetKey.{SetKey};
 ghost use Rattle.reply_records.specs.Groups.{Agrees};
 ghost use Rattle.reply_records.specs.Writing.{TakesRecords};
 ghost use Rattle.settled_replies.specs.Findings.{HasSections, CanBeWritten, RepliesToAll, RepliesToAllFrom, reply_with};
 ghost use Rattle.settled_replies.specs.Settled.{AnswersAll, IsSettled};
+ghost use Rattle.settled_replies.specs.Settling.{CanSettle, CanSettleBelow, CanSettleQuery};
 ghost use Rattle.zone_lookup.specs.Served.{AreServed};
 
 use crate::findings::{Finding, finding_in};
-use dns_message::{Query, Verdict, blank_query, read_over};
+use dns_message::{Query, Verdict, blank_query, one_judgement, read_over};
 use dns_name::Name;
 use dns_wire::{Reply, limit_of, records_add_up};
 use geo_latency::Tables;
@@ -29,8 +30,9 @@ use zone_lookup::{cuts_are_nearest, find_zone};
 /// Makes the reply to a packet where it is the same whoever asks, as long as no set becomes healthy or unhealthy, and
 /// says how many octets it has: where one set answers the name, or the wildcard for it, alone, that a failover chooses
 /// perhaps, or a place, a latency or a block of the subnet that the query tells; where there is no set of the type, nor
-/// a CNAME set, or the name doesn't exist; and where it is at or below a zone cut. None else, though of other packets
-/// the reply may be the same for all, too. It takes no memory.
+/// a CNAME set, or the name doesn't exist; and where it is at or below a zone cut. None else, though to other packets
+/// the reply may be the same for all, too: to those that are refused, and where an alias or a CNAME record leads on, or
+/// the one set is weighted or a multivalue answer. It takes no memory.
 pub fn settle<V: HealthView>(
     zones: &Zones,
     view: &V,
@@ -53,12 +55,17 @@ pub fn settle<V: HealthView>(
         → Agrees zones.now.zones (V.test view.now) healthy
         → IsSettled (hosted_of zones.now.zones) zones.now.collections.list healthy tables.now
         (drop 2 packet.now) (drop 2 reply.new.bytes)) }
+
+    // These packets are settled, and no others.
+    ensures exact { (healthy : (zone : ℕ) → SetKey → Bool) → Agrees zones.now.zones (V.test view.now) healthy
+        → (IsSome result ↔ CanSettle (served_by zones.now.zones zones.now.collections.list healthy tables.now) packet.now) }
     ensures length { IfSome result (λ n. n ≡ length reply.new.bytes) }
 
     // The room stays, and where nothing is settled all of the reply.
     ensures room { reply.new.room ≡ reply.old.room }
     ensures unsettled { result ≡ None → reply.new ≡ reply.old }
 {
+    one_judgement();
     let mut query = blank_query();
     match read_over(packet, &mut query) {
         Verdict::Silent => None,
@@ -89,6 +96,8 @@ fn settle_query<V: HealthView>(
         × ((healthy : (zone : ℕ) → SetKey → Bool) → Agrees zones.now.zones (V.test view.now) healthy
         → RepliesToAll (served_by zones.now.zones zones.now.collections.list healthy tables.now) query.now message)
         × (reply.new.bytes ≡ octets_within message (most_of query.now.edns))) }
+    ensures exact { (healthy : (zone : ℕ) → SetKey → Bool) → Agrees zones.now.zones (V.test view.now) healthy
+        → (IsSome result ↔ CanSettleQuery (served_by zones.now.zones zones.now.collections.list healthy tables.now) query.now) }
     ensures length { IfSome result (λ n. n ≡ length reply.new.bytes) }
     ensures room { reply.new.room ≡ reply.old.room }
     ensures unsettled { result ≡ None → reply.new ≡ reply.old }
@@ -129,6 +138,9 @@ fn settle_in<V: HealthView>(
         → RepliesToAllFrom (served_by zones.now.zones zones.now.collections.list healthy tables.now)
         (zone_of zones.now.zones zone apex.now) query.now found scope)
         × (reply.new.bytes ≡ octets_within (reply_with query.now found scope) (most_of query.now.edns))) }
+    ensures exact { (healthy : (zone : ℕ) → SetKey → Bool) → Agrees zones.now.zones (V.test view.now) healthy
+        → (IsSome result ↔ CanSettleBelow (served_by zones.now.zones zones.now.collections.list healthy tables.now) query.now
+        (zone_of zones.now.zones zone apex.now) (cut_above (zone_of zones.now.zones zone apex.now) query.now.name)) }
     ensures length { IfSome result (λ n. n ≡ length reply.new.bytes) }
     ensures room { reply.new.room ≡ reply.old.room }
     ensures unsettled { result ≡ None → reply.new ≡ reply.old }

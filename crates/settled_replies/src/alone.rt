@@ -1,25 +1,28 @@
 //! Whether a group comes to one set alone, whoever asks.
 
-ghost use Rattle.std.specs.Prelude.{◌≡◌, ◌<◌, Bool, ℕ, IfSome, IsTrue, Some, slice_get};
+ghost use Rattle.std.specs.Prelude.{◌≡◌, ◌<◌, ◌↔◌, Bool, ℕ, List, IfSome, IsSome, IsTrue, None, Some, slice_get};
 ghost use Rattle.address_text.specs.declared.address.IpAddress.{IpAddress};
 ghost use Rattle.dns_message.specs.Whole.{subnet_of};
 ghost use Rattle.query_engine.specs.Groups.{sets_in};
 ghost use Rattle.query_engine.specs.Looking.{IsGroupNow};
 ghost use Rattle.query_engine.specs.Reply.{told_scope};
+ghost use Rattle.record_set.specs.Reasons.{IsAlias};
 ghost use Rattle.record_set.specs.declared.sets.RecordSet.{RecordSet};
 ghost use Rattle.record_set.specs.declared.sets.SetKey.{SetKey};
 ghost use Rattle.reply_records.specs.Groups.{Agrees, FewInGroups, sets_in_zone};
 ghost use Rattle.reply_records.specs.Holding.{IsHolding};
 ghost use Rattle.set_octets.specs.Octets.{HasSpelling};
-ghost use Rattle.settled_replies.specs.Plain.{ComesTo, IsOne, IsWordless};
+ghost use Rattle.settled_replies.specs.Alone.{ComesTo, IsOne, IsWordless};
+ghost use Rattle.settled_replies.specs.Settling.{EndsWithOne, IsSureBy, TellsClient};
 ghost use Rattle.zone_lookup.specs.Clients.{client_address, client_with};
 ghost use Rattle.zone_lookup.specs.UsedRecord.{Used};
 
 use address_text::IpAddress;
 use dns_message::Edns;
 use geo_latency::Tables;
+use policy_select::{load_member, places_of};
 use query_engine::{HealthView, Scratch, Zones, client_address, told_scope};
-use reply_records::{Selected, descend_held, first_answers};
+use reply_records::{Selected, descend_held};
 use routing::Routing;
 use zone_lookup::{Group, Seen, Used};
 
@@ -45,11 +48,26 @@ pub(crate) fn scope_of_one<V: HealthView>(
         (sets_in_zone zones.now.zones group.zone) (sets_in zones.now.zones group) set used
         × (told_scope (subnet_of edns.now)
         (client_with tables.now zones.now.collections.list (client_address (subnet_of edns.now) peer)) used ≡ scope)))) }
+
+    // Then the policy is sure; where it is and none is told, not each asker comes to one set.
+    ensures sure { IfSome result (λ scope. (first : RecordSet)
+        → slice_get (sets_in zones.now.zones group) 0 ≡ Some first → IsSureBy first.routing (subnet_of edns.now)) }
+    ensures none { result ≡ None → (first : RecordSet) → slice_get (sets_in zones.now.zones group) 0 ≡ Some first
+        → IsSureBy first.routing (subnet_of edns.now) → (healthy : (zone : ℕ) → SetKey → Bool)
+        → Agrees zones.now.zones (V.test view.now) healthy → ((peer : IpAddress) (words : List ℕ) → EndsWithOne (record {
+          healthy = healthy group.zone;
+          client = client_with tables.now zones.now.collections.list (client_address (subnet_of edns.now) peer);
+          words = words;
+        }) (sets_in_zone zones.now.zones group.zone) (sets_in zones.now.zones group)) → ⊥ }
 {
-    if first_answers(zones, group, scratch) {
-        return Some(0);
-    }
+    load_first(zones, group, scratch);
     match scratch.routing() {
+        Routing::Simple => {
+            if is_alias(scratch) {
+                return None;
+            }
+            Some(0)
+        }
         Routing::Failover(_, _) => {
             let nobody = IpAddress::V4([0; 4]);
             match scope_for(zones, view, tables, edns, nobody, group, scratch) {
@@ -60,7 +78,30 @@ pub(crate) fn scope_of_one<V: HealthView>(
         Routing::Geolocation(_, _) => scope_for_told(zones, view, tables, edns, group, scratch),
         Routing::Latency(_, _) => scope_for_told(zones, view, tables, edns, group, scratch),
         Routing::Cidr(_, _, _) => scope_for_told(zones, view, tables, edns, group, scratch),
-        _ => None,
+        Routing::Weighted(_, _) => None,
+        Routing::Multivalue(_) => None,
+    }
+}
+
+/// Loads the first set of a group.
+fn load_first(zones: &Zones, group: Group, scratch: &mut Scratch)
+    requires group { IsGroupNow zones.now.zones group }
+    requires some { 0 < group.length }
+    ensures { (set : RecordSet)
+        × (slice_get (sets_in zones.now.zones group) 0 ≡ Some set)
+        × (scratch.new ≡ Some set) × HasSpelling set }
+{
+    load_member(zones, group, 0, scratch);
+}
+
+/// Whether the set that is held is an alias.
+fn is_alias(scratch: &Scratch) -> bool
+    requires { IsHolding scratch.now }
+    ensures { IfSome scratch.now (λ set. IsTrue result ↔ IsAlias set.body) }
+{
+    match scratch.alias() {
+        None => false,
+        Some(_) => true,
     }
 }
 
@@ -90,6 +131,13 @@ fn scope_for_told<V: HealthView>(
         (sets_in_zone zones.now.zones group.zone) (sets_in zones.now.zones group) set used
         × (told_scope (subnet_of edns.now)
         (client_with tables.now zones.now.collections.list (client_address (subnet_of edns.now) peer)) used ≡ scope)))) }
+    ensures told { IsSome result → TellsClient (subnet_of edns.now) }
+    ensures none { result ≡ None → TellsClient (subnet_of edns.now) → (healthy : (zone : ℕ) → SetKey → Bool)
+        → Agrees zones.now.zones (V.test view.now) healthy → ((peer : IpAddress) (words : List ℕ) → EndsWithOne (record {
+          healthy = healthy group.zone;
+          client = client_with tables.now zones.now.collections.list (client_address (subnet_of edns.now) peer);
+          words = words;
+        }) (sets_in_zone zones.now.zones group.zone) (sets_in zones.now.zones group)) → ⊥ }
 {
     match told_client(edns) {
         None => None,
@@ -99,7 +147,8 @@ fn scope_for_told<V: HealthView>(
 
 /// The client's address, where the query tells a subnet of it, whatever address it came from.
 fn told_client(edns: &Option<Edns>) -> Option<IpAddress>
-    ensures { IfSome result (λ client. (peer : IpAddress) → client_address (subnet_of edns.now) peer ≡ client) }
+    ensures told { IsSome result ↔ TellsClient (subnet_of edns.now) }
+    ensures is { IfSome result (λ client. (peer : IpAddress) → client_address (subnet_of edns.now) peer ≡ client) }
 {
     let Some(told) = edns else {
         return None;
@@ -139,6 +188,12 @@ fn scope_for<V: HealthView>(
         (sets_in_zone zones.now.zones group.zone) (sets_in zones.now.zones group) set used
         × (told_scope (subnet_of edns.now) (client_with tables.now zones.now.collections.list client) used
         ≡ scope)))) }
+    ensures none { result ≡ None → (healthy : (zone : ℕ) → SetKey → Bool)
+        → Agrees zones.now.zones (V.test view.now) healthy → ((words : List ℕ) → EndsWithOne (record {
+          healthy = healthy group.zone;
+          client = client_with tables.now zones.now.collections.list client;
+          words = words;
+        }) (sets_in_zone zones.now.zones group.zone) (sets_in zones.now.zones group)) → ⊥ }
 {
     let mut choices = 0;
     let mut used = Used {
@@ -162,7 +217,10 @@ fn scope_for<V: HealthView>(
         &mut seen,
         scratch,
     );
-    if choices != 1 || !is_one(&selected) {
+    if choices != 1 {
+        return None;
+    }
+    if !is_one(&selected) {
         return None;
     }
     Some(told_scope(zones, tables, edns, client, &used, &seen))
@@ -170,10 +228,10 @@ fn scope_for<V: HealthView>(
 
 /// Whether one set is selected.
 fn is_one(selected: &Selected) -> bool
-    ensures { IsTrue result → IsOne selected.now }
+    ensures { IsTrue result ↔ IsOne selected.now }
 {
     match selected {
         Selected::Nothing => false,
-        Selected::Sets(_, picked) => picked.count == 1,
+        Selected::Sets(_, picked) => places_of(picked).len() == 1,
     }
 }

@@ -1,17 +1,19 @@
--- What a group comes to that one set answers alone, whoever asks.
+-- Where a descent by one choice ends, whoever asks.
 use Rattle.std.proofs.Common.{◌≡◌, ◌<◌, ◌⊎◌, ◌+◌, ℕ, zero, suc, Bool, List, [], ◌∷◌, refl, sym, ap, ◌∙◌, subst, arith, inl, inr}
+use Rattle.record_set.specs.Reasons.{IsAlias}
 use Rattle.record_set.specs.declared.sets.Body.{Body}
 use Rattle.record_set.specs.declared.sets.Body.TheVariants as body
 use Rattle.record_set.specs.declared.sets.RecordSet.{RecordSet}
 use Rattle.record_set.specs.declared.sets.SetKey.{SetKey}
 use Rattle.routing.specs.declared.policies.Routing.{Routing}
+use Rattle.routing.specs.declared.policies.Routing.TheVariants as policy
 use Rattle.choice_model.specs.Choice.{chosen_by}
 use Rattle.zone_model.specs.Zones.{group, target_group}
 use Rattle.zone_lookup.specs.Clients.{Client}
 use Rattle.zone_lookup.specs.Descent.{Choices, Descended, Means, by_body, by_choice, descend, descends, healthy_in, no_choices, selected, sets_at, unused, uses, with_choice, word_of}
-use Rattle.zone_lookup.specs.Sections.{followed}
 use Rattle.zone_lookup.specs.UsedRecord.{Used}
-use Rattle.settled_replies.specs.Plain.{ComesTo, IsFailover, IsWordless}
+use Rattle.settled_replies.specs.Alone.{ComesTo, IsFailover, IsWordless}
+use Rattle.settled_replies.specs.Settling.{EndsWithOne}
 
 -- The choices of a descent are more than before, where it comes to a set.
 counted : (choices made : Choices) (on : RecordSet → Descended) → made.count ≡ choices.count + 1
@@ -120,6 +122,17 @@ module _ (healthy : SetKey → Bool) (zone : List RecordSet) (first : RecordSet)
       (ap (λ (came : Descended). came.sets) (comes []))
       (ap (λ (came : Descended). came.choices.count) (comes []))
 
+  pub ends_for_all : IsFailover first.routing → (client other : Client) (words other_words : List ℕ)
+      → EndsWithOne (means client words) zone (first ∷ others) → EndsWithOne (means other other_words) zone (first ∷ others)
+  ends_for_all failover client other words other_words (set, sets, count) =
+      let goes = goes_through client other words other_words set unused
+      (ap (λ (policy : Routing). sets_at (first ∷ others) (chosen_by policy (first ∷ others)
+      (healthy_in healthy (first ∷ others)) other.rows (word_of other_words 0))) failover.2
+      ∙ sym (ap (λ (policy : Routing). sets_at (first ∷ others) (chosen_by policy (first ∷ others)
+      (healthy_in healthy (first ∷ others)) client.rows (word_of words 0))) failover.2))
+      (ap (λ (policy : Routing). uses other policy unused) failover.2) sets count in
+      (set, ap (λ (d : Descended). d.sets) goes, ap (λ (d : Descended). d.choices.count) goes)
+
   -- what the choice used
   pub comes_with : IsWordless first.routing → (client : Client) (words : List ℕ) (set : RecordSet) (used : Used)
       → (descend (means client words) zone (first ∷ others) no_choices).sets ≡ set ∷ []
@@ -159,3 +172,62 @@ pub failover_wordless : (policy : Routing) → IsFailover policy → IsWordless 
 failover_wordless policy (ident, role, is) group healthy rows word other =
     ap (λ (p : Routing). chosen_by p group healthy rows word) is
     ∙ sym (ap (λ (p : Routing). chosen_by p group healthy rows other) is)
+
+-- ---- a simple set
+
+of_values : (what : Body) (here further : Descended) → (IsAlias what → ⊥) → by_body what here further ≡ here
+of_values (body.Values ttl values) here further values_are = refl
+of_values (body.Alias target evaluate) here further none = absurd (none tt)
+
+of_alias : (what : Body) (here further : Descended) → IsAlias what → by_body what here further ≡ further
+of_alias (body.Values ttl values) here further alias = absurd alias
+of_alias (body.Alias target evaluate) here further alias = refl
+
+module _ (by : Means) (zone : List RecordSet) (first : RecordSet) (others : List RecordSet)
+    (simple : first.routing ≡ policy.Simple) where
+  abbrev made_once : Choices
+  made_once = with_choice by (first ∷ others) no_choices
+
+  abbrev on_from : RecordSet → Descended
+  on_from alias = descends 16 by zone (target_group zone alias) made_once
+
+  -- the first set is chosen
+  chooses_first : descend by zone (first ∷ others) no_choices
+      ≡ by_body first.body (record { sets = first ∷ []; choices = made_once }) (on_from first)
+  unfolding descend
+  chooses_first =
+      ap (λ (p : Routing). by_choice (sets_at (first ∷ others) (chosen_by p (first ∷ others)
+      (healthy_in by.healthy (first ∷ others)) by.client.rows (word_of by.words 0))) made_once on_from) simple
+
+  -- It answers where it has values.
+  pub simple_ends : (IsAlias first.body → ⊥)
+      → descend by zone (first ∷ others) no_choices
+      ≡ record { sets = first ∷ []; choices = record { count = 1; used = unused } }
+  simple_ends values =
+      chooses_first
+      ∙ (of_values first.body (record { sets = first ∷ []; choices = made_once }) (on_from first) values
+      ∙ ap (λ (p : Routing). record {
+        sets = first ∷ [];
+        choices = record { count = 1; used = uses by.client p unused };
+      }) simple)
+
+  -- An alias leads on.
+  pub alias_leads_on : IsAlias first.body → EndsWithOne by zone (first ∷ others) → ⊥
+  alias_leads_on alias (set, sets, count) =
+      elim (counts 16 by zone (target_group zone first) made_once) [
+        | inl none ↦ absurd (grind (arith, sym none ∙ (ap (λ (d : Descended). d.sets) (sym goes) ∙ sets)))
+        | inr more ↦ let once = ap (λ (d : Descended). d.choices.count) (sym goes) ∙ count in
+            absurd (omega (arith, more, once))
+      ]
+    where
+      goes : descend by zone (first ∷ others) no_choices ≡ on_from first
+      goes = chooses_first ∙ of_alias first.body (record { sets = first ∷ []; choices = made_once }) (on_from first) alias
+
+-- ---- one choice of one set
+
+-- of what comes to a set by all words
+pub ends_with_one : (healthy : SetKey → Bool) (client : Client) (zone its_group : List RecordSet) (set : RecordSet)
+    (used : Used) → ComesTo healthy client zone its_group set used → (words : List ℕ)
+    → EndsWithOne (record { healthy = healthy; client = client; words = words }) zone its_group
+ends_with_one healthy client zone its_group set used comes words =
+    (set, ap (λ (d : Descended). d.sets) (comes words), ap (λ (d : Descended). d.choices.count) (comes words))

@@ -1,5 +1,5 @@
 -- Groups that come to one set alone.
-use Rattle.std.specs.Prelude.{◌≡◌, ℕ, List, [], ◌∷◌, Bool}
+use Rattle.std.specs.Prelude.{◌≡◌, ℕ, List, [], ◌∷◌, Bool, length}
 use Rattle.choice_model.specs.Choice.{ClientRows, chosen_by}
 use Rattle.record_set.specs.declared.sets.RecordSet.{RecordSet}
 use Rattle.record_set.specs.declared.sets.SetKey.{SetKey}
@@ -8,6 +8,7 @@ use Rattle.routing.specs.declared.policies.Routing.{Routing}
 use Rattle.routing.specs.declared.policies.Routing.TheVariants as routing
 use Rattle.reply_records.specs.SelectedRecord.{Selected}
 use Rattle.reply_records.specs.SelectedRecord.TheVariants as selected
+use Rattle.reply_records.specs.Selecting.{places_of}
 use Rattle.zone_lookup.specs.Clients.{Client}
 use Rattle.zone_lookup.specs.Descent.{descend, no_choices}
 use Rattle.zone_lookup.specs.UsedRecord.{Used}
@@ -31,4 +32,4 @@ IsFailover policy = (ident : List ℕ) × (role : Role) × (policy ≡ routing.F
 -- one set is selected
 abbrev pub IsOne : Selected → Type 0
 IsOne selected.Nothing = ⊥
-IsOne (selected.Sets group picked) = picked.count ≡ 1
+IsOne (selected.Sets group picked) = length (places_of picked) ≡ 1
