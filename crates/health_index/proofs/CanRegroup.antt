@@ -45,12 +45,12 @@ use Rattle.zone_model.specs.Zones.{IsAmong, is_of_group}
 
 -- ---- the group to which an evaluated alias leads
 
-record HasLed (zones : List Zone) (seats : List Seat) (net : Net) (own : ℕ → ℕ) (zone : ℕ)
+pub record HasLed (zones : List Zone) (seats : List Seat) (net : Net) (own : ℕ → ℕ) (zone : ℕ)
     (name : List (List ℕ)) (rtype : RType) : Type 0 where
-  members : List Slotted
-  are : AreMembers zones zone name rtype members
-  valve : ℕ
-  is : IsGroupValve seats net own members valve
+  pub members : List Slotted
+  pub are : AreMembers zones zone name rtype members
+  pub valve : ℕ
+  pub is : IsGroupValve seats net own members valve
 
 module _ (zones : List Zone) (checks : Checks) (reports : List Report) (index : Index)
     (stands : StandsFor zones checks reports index) where
@@ -66,7 +66,7 @@ module _ (zones : List Zone) (checks : Checks) (reports : List Report) (index : 
       by (inr (on, (valve, is, (members, are, w)))) =
           record { members = members; are = are; valve = valve; is = w }
 
-  led_group : (zone : ℕ) (name : List (List ℕ)) (rtype : RType) → IsLedTo zones zone name rtype
+  pub led_group : (zone : ℕ) (name : List (List ℕ)) (rtype : RType) → IsLedTo zones zone name rtype
       → HasLed zones index.seats stands.net stands.own zone name rtype
   led_group zone name rtype (p, (here, is)) =
       let on = ap evaluates is.0 in
@@ -85,7 +85,7 @@ module _ (zones : List Zone) (checks : Checks) (reports : List Report) (index : 
       let second = stands.fits.laid.size in
       sym (fits.owned.each valve (omega (arith, first, second, within))) ∙ stands.fits.owned.each valve within
 
-  rows_there : (valve : ℕ) → valve < stands.net.size → valve < size_of index.valves
+  pub rows_there : (valve : ℕ) → valve < stands.net.size → valve < size_of index.valves
   rows_there valve within = let size = stands.fits.laid.size in omega (arith, size, within)
 
 plain_some : (seats : List Seat) (members : List Slotted) (p : Slotted) → IsHere members p
@@ -180,10 +180,10 @@ module _ (before after : List Zone) (checks : Checks) (reports : List Report) (i
     (slots_after : HaveSlotsApart after) (delta : Delta) (ref : SetRef) (come : HasCome delta ref)
     (set : RecordSet) (names : RefersTo after ref set) (made : ZoneEdit) (allowed : IsAllowed before made)
     (edits : Edits before made after delta) where
-  moves : Moves before after delta.removed delta.added
+  pub moves : Moves before after delta.removed delta.added
   moves = moved before after stands.are_zones are_after made delta allowed edits come.zone
 
-  still_here : (zone : ℕ) (p : Slotted) → IsHere (placed_in before zone) p → IsHere (placed_in after zone) p
+  pub still_here : (zone : ℕ) (p : Slotted) → IsHere (placed_in before zone) p → IsHere (placed_in after zone) p
   still_here zone p here = elim (moves.stays zone p here) [
     | inl told ↦ absurd (is_none delta.removed (ref_in zone p) come.removed told)
     | inr there ↦ there
@@ -250,7 +250,7 @@ module _ (before after : List Zone) (checks : Checks) (reports : List Report) (i
       let zone_is : zone ≡ ref.zone = ap (λ (r : SetRef). r.zone) one in
       free_in made allowed edits p (subst (λ (z : ℕ). IsHere (placed_in before z) p) zone_is here) slot
 
-  bare_seat : set_seat index.seats ref.slot ≡ 0
+  pub bare_seat : set_seat index.seats ref.slot ≡ 0
   bare_seat = elim (cases_eq (set_seat index.seats ref.slot) 0) [
     | inl none ↦ none
     | inr some ↦
@@ -258,7 +258,7 @@ module _ (before after : List Zone) (checks : Checks) (reports : List Report) (i
         absurd (free_slot h.0.zone (record { slot = h.0.slot; set = h.1.0 }) h.1.1.0 h.1.1.1)
   ]
 
-  no_group : group_seat index.seats ref.slot ≡ 0
+  pub no_group : group_seat index.seats ref.slot ≡ 0
   no_group = by (group_seat index.seats ref.slot) refl
     where
       by : (n : ℕ) → group_seat index.seats ref.slot ≡ n → group_seat index.seats ref.slot ≡ 0
@@ -268,7 +268,7 @@ module _ (before after : List Zone) (checks : Checks) (reports : List Report) (i
           let q = y.only ref.slot e in
           absurd (free_slot y.zone q.0 (y.are.here q.0 q.1) q.2)
 
-  was_here : (zone : ℕ) (p : Slotted) → IsHere (placed_in after zone) p → p.slot ≢ ref.slot → IsHere (placed_in before zone) p
+  pub was_here : (zone : ℕ) (p : Slotted) → IsHere (placed_in after zone) p → p.slot ≢ ref.slot → IsHere (placed_in before zone) p
   was_here zone p here apart = elim (moves.only zone p here) [
     | inl was ↦ was
     | inr new ↦ absurd (apart (ap (λ (r : SetRef). r.slot) (is_one delta.added ref (ref_in zone p) come.added new)))

@@ -1,6 +1,7 @@
 pub mod Agreed
 pub mod Again
 pub mod Behind
+pub mod CanCome
 pub mod CanRegroup
 pub mod CanUnlead
 pub mod Commanded
@@ -31,6 +32,7 @@ pub use Rattle.health_standing.proofs.GroupJoined
 pub use Rattle.health_standing.proofs.GroupLeft
 pub use Rattle.health_standing.proofs.Keyed
 pub use Rattle.health_standing.proofs.Leading
+pub use Rattle.health_standing.proofs.Led
 pub use Rattle.health_standing.proofs.Moving
 pub use Rattle.health_standing.proofs.Regrouped
 pub use Rattle.health_standing.proofs.Reseated

@@ -18,6 +18,7 @@ use Rattle.health_planning.specs.ZoneEditRecord.{ZoneEdit}
 use Rattle.record_set.specs.declared.sets.Body.TheVariants as body
 use Rattle.record_set.specs.declared.sets.RecordSet.{RecordSet}
 use Rattle.zone_model.specs.Slotted.{IsHere, Slotted}
+use Rattle.health_model.specs.Sound.{IsSound}
 use Rattle.health_planning.specs.Later.{AreLater}
 use Rattle.health_planning.specs.Wired.{IsLedTo, is_watched, watched_of}
 use Rattle.health_index.specs.Following.{IsOpenTo, IsWay}
@@ -25,6 +26,7 @@ use Rattle.health_index.specs.declared.following.Way.{Way}
 use Rattle.health_index.specs.declared.following.Way.TheVariants as way
 use Rattle.health_index.specs.Index.{AreNumbered, Index, IsEndpoint, IsEndpointOf, IsLaidFor, StandsFor, Tells}
 use Rattle.health_index.specs.Kin.{kin_of}
+use Rattle.health_index.specs.Leading.{ComesToLead}
 use Rattle.health_index.specs.Regrouping.{HasCome, HasGone, JoinsGroup, LeavesGroup, TellNoOther}
 use Rattle.health_index.specs.Unleading.{LeavesValve}
 use Rattle.health_index.specs.Values.{AreValues, MeetsIn}
@@ -116,3 +118,14 @@ AliasesCanLeave = (before after : List Zone) (checks : Checks) (reports : List R
     → p.slot ≡ ref.slot → p.set.body ≡ body.Alias name true
     → (IsLedTo before ref.zone p.set.name p.set.rtype → ⊥) → IsLedTo after ref.zone name p.set.rtype
     → (valve : ℕ) × LeavesValve after index.seats index.valves ref valve
+
+-- Where an evaluated alias came by an edit, of a group to which none leads, and another one leads where it leads,
+-- seats tell all that is wanted to give it a valve. The check that it names, if it names one, is there.
+abbrev pub AliasesCanCome : Type 0
+AliasesCanCome = (before after : List Zone) (checks : Checks) (reports : List Report) (index : Index)
+    (made : ZoneEdit) (delta : Delta) (ref : SetRef) (set : RecordSet) (name : List (List ℕ))
+    → StandsFor before checks reports index → AreZones after → HaveSlotsApart after
+    → IsSound (watched_of after checks) → IsAllowed before made → Edits before made after delta
+    → HasCome delta ref → RefersTo after ref set → set.body ≡ body.Alias name true
+    → (IsLedTo before ref.zone set.name set.rtype → ⊥) → IsLedTo before ref.zone name set.rtype
+    → (feeders : List ℕ) × ComesToLead after index.ids index.numbers index.seats index.valves ref feeders

@@ -18,6 +18,7 @@ pub use Rattle.health_planning.specs.Edits
 pub use Rattle.health_planning.specs.Looking
 pub use Rattle.health_standing.specs.Index
 pub use Rattle.health_standing.specs.Kin
+pub use Rattle.health_standing.specs.Leading
 pub use Rattle.health_standing.specs.Leaving
 pub use Rattle.health_standing.specs.Regrouping
 pub use Rattle.health_standing.specs.Unleading

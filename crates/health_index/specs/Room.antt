@@ -1,7 +1,8 @@
 -- Room in which a configuration is laid out anew, without memory.
-use Rattle.std.specs.Prelude.{◌≡◌, ◌≤◌, ◌+◌, ◌*◌, ◌^◌, ℕ}
-use Rattle.health_valves.specs.Valves.{value_of}
-use Rattle.health_valves.specs.Laying.{HasRoomFor}
+use Rattle.std.specs.Prelude.{◌≡◌, ◌≤◌, ◌<◌, ◌+◌, ◌*◌, ◌^◌, ℕ, length}
+use Rattle.health_valves.specs.Valves.{size_of, value_of}
+use Rattle.health_valves.specs.Laying.{HasRoomFor, links_of}
+use Rattle.health_valves.specs.declared.valves.Valves.{Valves}
 use Rattle.health_index.specs.Index.{Index}
 
 -- An index can be laid out anew over so many slots: 200 checks of at most 255 children, which are kept by
@@ -20,6 +21,16 @@ pub record HasRoom (index : Index) (slots : ℕ) : Type 0 where
   pub triggers : slots * 2 + 200 ≤ index.space.triggers
   pub links : slots * 3 + 51200 ≤ index.space.links
   pub valves : HasRoomFor index.valves (slots * 2 + 200) (slots * 3 + 51200)
+
+-- Fewer valves are there than over so many slots there can be, and fewer links by two at least.
+pub record HasValveRoom (valves : Valves) (slots : ℕ) : Type 0 where
+  pub valves_below : size_of valves < slots * 2 + 200
+  pub links_below : links_of valves + 2 ≤ slots * 3 + 51200
+
+-- One set more can have a valve of its own.
+pub record HasRoomForAlias (index : Index) (slots : ℕ) : Type 0 where
+  pub refs : length index.refs < index.space.refs
+  pub valves : HasValveRoom index.valves slots
 
 -- Only room changes: checks, their valves, what their checkers saw, their children, seats, listed sets, noted
 -- members and values stay.

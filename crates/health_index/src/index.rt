@@ -17,13 +17,14 @@ ghost use Rattle.health_index.specs.Following.{IsFollowed, IsOpenTo, IsWay};
 ghost use Rattle.health_index.specs.declared.following.Way.{Way};
 ghost use Rattle.health_index.specs.declared.following.Way.TheVariants as way;
 ghost use Rattle.health_index.specs.Kin.{kin_of};
+ghost use Rattle.health_index.specs.Leading.{ComesToLead, GetsValve};
 ghost use Rattle.health_index.specs.Leaving.{AreLeft, KeepsValves, Moves, SparesValves};
 ghost use Rattle.health_index.specs.Regrouping.{HasCome, HasGone, Joins, JoinsGroup, Leaves};
 ghost use Rattle.health_index.specs.Regrouping.{LeavesGroup, TellNoOther};
-ghost use Rattle.health_index.specs.Room.{HasRoom, Keeps};
+ghost use Rattle.health_index.specs.Room.{HasRoom, HasRoomForAlias, Keeps};
 ghost use Rattle.health_index.specs.Unleading.{LeavesValve, Unleads};
 ghost use Rattle.health_index.specs.Values.{WorksOut};
-ghost use Rattle.health_planning.specs.Wired.{group_seat, watched_of};
+ghost use Rattle.health_planning.specs.Wired.{group_seat, is_watched, watched_of};
 ghost use Rattle.health_model.specs.Nodes.{CheckNode, InCone, Node};
 ghost use Rattle.health_model.specs.Sound.{IsSound};
 ghost use Rattle.health_model.specs.Statuses.{Report, status, status_told};
@@ -37,19 +38,21 @@ use crate::following::{
 };
 use crate::kin::{has_kin, list_kin};
 use crate::laws::index_tells_health;
-use crate::reserving::{each_ok, room_for_checks, room_for_kin, room_for_numbers, room_for_slots};
+use crate::reserving::{
+    each_ok, has_room_for_one, room_for_checks, room_for_kin, room_for_numbers, room_for_slots,
+};
 use crate::taking::take_result;
 use crate::valve_numbers::{asks_all, has_number, keep_numbers, spare_number};
 use checker_state::{CHECKERS, Checkers, fifty_alone};
 use health_check::CheckTable;
-use health_model::{one_health, one_more_report};
+use health_model::{one_health, one_more_report, paths_end};
 use health_planning::{
     Delta, HealthView, MOST_CHECKS, Scratch, Seat, SetRef, Zones, list_ids, list_seen, number_at,
     place_near, plan_valves, seat_anew, seat_beside, views_agree,
 };
 use health_standing::{
-    gone_by, group_joined, group_left, leaves_valves, one_come, one_gone, put_seat, seat_in,
-    spares_valves, tells_of_check, valve_left, valve_of,
+    alias_come, gone_by, group_joined, group_left, leaves_valves, one_come, one_gone, own_in,
+    push_alias, put_seat, seat_in, spares_valves, tells_of_check, valve_left, valve_of,
 };
 use health_valves::{Blueprint, Steps, Valves};
 use octets::OutOfMemory;
@@ -225,7 +228,10 @@ impl HealthIndex {
     /// numbers of checks. Where one set alone went or came, nothing decides it, and an evaluated alias
     /// leads to its group, it costs a look at that group, and what stands above it where its value
     /// changes. Where an evaluated alias alone went, of a group to which none leads, and another one leads
-    /// to its target group, it costs a look at what fed its valve, which goes on without a node.
+    /// to its target group, it costs a look at what fed its valve, which goes on without a node. Where one
+    /// alone came, of a group to which none leads, and another one leads to its target group, it costs a look at
+    /// its group and at the first set of its target group: its valve comes behind all. Valves that went on
+    /// without a node take room until all are laid out anew; where there is none for one more, they are.
     ///
     /// Where it tells of no zone, and no calculated check came, went or got other children: where
     /// checks have the numbers of those before, as after UpdateHealthCheck, or one of an endpoint came
@@ -272,6 +278,14 @@ impl HealthIndex {
         ensures unled { (ref : SetRef) (valve : ℕ) → HasGone delta.now ref
             → LeavesValve zones.now.zones self.old.seats self.old.valves ref valve
             → Unleads ref valve self.old self.new }
+
+        // Where one evaluated alias came, of a group without a valve, and its target group has one, as another
+        // leads there, there is one valve more, which that of the group and that of its check feed, and a seat
+        // tells it; where there is room for one more.
+        ensures led { (ref : SetRef) (feeders : List ℕ) → HasCome delta.now ref
+            → ComesToLead zones.now.zones self.old.ids self.old.numbers self.old.seats self.old.valves ref feeders
+            → HasRoomForAlias self.old zones.now.slots
+            → GetsValve ref feeders self.old self.new }
 
         // Where calculated checks stay with their children, and those of endpoints do or one of them came or
         // went, nothing changes but the valves of checks, those above, and what the index has of that one.
@@ -346,8 +360,8 @@ impl HealthIndex {
     }
 
     /// Takes a command by which one set that nothing decides came into a group with a valve, or went from one,
-    /// or one with a valve of its own went. The answer is whether it is one, and there is room to note the set;
-    /// else the index stays as it is. It takes no memory.
+    /// or one with a valve of its own went, or an evaluated alias came. The answer is whether it is one, and there
+    /// is room to note the set; else the index stays as it is. It takes no memory.
     fn regroup(&mut self, zones: &Zones, checks: &CheckTable, delta: &Delta) -> bool
         requires room { HasRoom self.old zones.now.slots }
         requires sound { IsSound (watched_of zones.now.zones checks.now.checks) }
@@ -369,6 +383,10 @@ impl HealthIndex {
         ensures unled { (ref : SetRef) (valve : ℕ) → HasGone delta.now ref
             → LeavesValve zones.now.zones self.old.seats self.old.valves ref valve
             → (result ≡ true) × Unleads ref valve self.old self.new }
+        ensures led { (ref : SetRef) (feeders : List ℕ) → HasCome delta.now ref
+            → ComesToLead zones.now.zones self.old.ids self.old.numbers self.old.seats self.old.valves ref feeders
+            → HasRoomForAlias self.old zones.now.slots
+            → (result ≡ true) × GetsValve ref feeders self.old self.new }
     {
         if let Some(set) = one_gone(delta) {
             if self.leave(zones, checks, delta, set) {
@@ -377,7 +395,10 @@ impl HealthIndex {
             return self.unlead(zones, checks, delta, set);
         }
         if let Some(set) = one_come(delta) {
-            return self.join(zones, checks, delta, set);
+            if self.join(zones, checks, delta, set) {
+                return true;
+            }
+            return self.lead_in(zones, checks, delta, set);
         }
         false
     }
@@ -440,6 +461,8 @@ impl HealthIndex {
             → AreLeft before old zones.now.zones checks.now.checks delta.now → result ≡ true
             → StandsFor zones.now.zones checks.now.checks reports self.new }
         ensures stays { result ≡ false → self.new ≡ self.old }
+        ensures off { result ≡ true → (named : RecordSet) → RefersTo zones.now.zones set named
+            → is_watched named ≡ false }
         ensures joined { (named : RecordSet) (valve : ℕ)
             → JoinsGroup zones.now.zones self.old.seats self.old.valves set valve
             → RefersTo zones.now.zones set named
@@ -462,6 +485,50 @@ impl HealthIndex {
         self.valves.set_count(valve, own + 1);
         self.members.push_reserved(set);
         seat_in(zones, &mut self.seats, set.slot, told);
+        true
+    }
+
+    /// Takes a command by which one evaluated alias alone came, of a group without a valve, to a target group
+    /// that has one.
+    fn lead_in(&mut self, zones: &Zones, checks: &CheckTable, delta: &Delta, set: SetRef) -> bool
+        requires room { HasRoom self.old zones.now.slots }
+        requires sound { IsSound (watched_of zones.now.zones checks.now.checks) }
+        requires come { HasCome delta.now set }
+        ensures stands { (before : List Zone) (old : Checks) (reports : List Report)
+            → StandsFor before old reports self.old
+            → AreLeft before old zones.now.zones checks.now.checks delta.now → result ≡ true
+            → StandsFor zones.now.zones checks.now.checks reports self.new }
+        ensures stays { result ≡ false → self.new ≡ self.old }
+        ensures led { (feeders : List ℕ)
+            → ComesToLead zones.now.zones self.old.ids self.old.numbers self.old.seats self.old.valves set feeders
+            → HasRoomForAlias self.old zones.now.slots
+            → (result ≡ true) × GetsValve set feeders self.old self.new }
+    {
+        paths_end();
+        zones.well_formed();
+        zones.slots_apart();
+        zones.slots_within();
+        let Some(feeders) = alias_come(
+            zones,
+            &self.ids,
+            &self.numbers,
+            &self.seats,
+            &self.valves,
+            set,
+            &mut self.scratch,
+        ) else {
+            return false;
+        };
+        if self.refs.len() >= self.refs.capacity() {
+            return false;
+        }
+        if !has_room_for_one(&self.valves, zones.slots()) {
+            return false;
+        }
+        let told = self.valves.len() as u32 + 1;
+        push_alias(&mut self.valves, feeders);
+        self.refs.push_reserved(set);
+        own_in(zones, &mut self.seats, set.slot, told);
         true
     }
 

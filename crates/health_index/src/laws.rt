@@ -1,7 +1,7 @@
 //! Laws over the definitions. Each stands as the contract of a function that does nothing.
 
-ghost use Rattle.health_index.specs.Laws.{AliasesCanLeave, ChecksAreLater, IndexTells, NodesAreNumbered};
-ghost use Rattle.health_index.specs.Laws.{ChecksCanFollow, CommandsCanFollow, NodesHaveValues};
+ghost use Rattle.health_index.specs.Laws.{AliasesCanCome, AliasesCanLeave, ChecksAreLater, IndexTells};
+ghost use Rattle.health_index.specs.Laws.{ChecksCanFollow, CommandsCanFollow, NodesAreNumbered, NodesHaveValues};
 ghost use Rattle.health_index.specs.Laws.{SetsCanJoin, SetsCanLeave, StandsWhereAllMeet};
 
 use health_model::one_health;
@@ -54,4 +54,10 @@ pub fn sets_can_regroup()
 /// while another one leads to its target group, the index has what it wants to leave its valve vacant.
 pub fn aliases_can_leave()
     ensures { AliasesCanLeave }
+{}
+
+/// Where an index stands for zones, and an evaluated alias comes by an edit, of a group to which none leads, while
+/// another one leads to its target group, the index has what it wants to give it a valve in place.
+pub fn aliases_can_come()
+    ensures { AliasesCanCome }
 {}

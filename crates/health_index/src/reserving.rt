@@ -1,6 +1,7 @@
 //! Room in which all valves can be laid out anew.
 
-ghost use Rattle.std.specs.Prelude.{◌≡◌, ◌≤◌, ◌<◌, ◌+◌, ◌*◌, ◌^◌, ℕ, IsOk, OnOk, length, vec_capacity};
+ghost use Rattle.std.specs.Prelude.{◌≡◌, ◌≤◌, ◌<◌, ◌+◌, ◌*◌, ◌^◌, ◌↔◌, ℕ, IsOk, IsTrue, OnOk, length, vec_capacity};
+ghost use Rattle.health_index.specs.Room.{HasValveRoom};
 ghost use Rattle.health_valves.specs.Valves.{ValvesStandFor, Net};
 ghost use Rattle.health_valves.specs.Laying.{HasRoomFor};
 ghost use Rattle.health_valves.specs.Pass.{IsIdle, MeetAll};
@@ -129,6 +130,14 @@ pub fn room_for_slots(
         return Err(OutOfMemory);
     };
     Ok(())
+}
+
+/// Whether there is room for one valve more with two links, as over so many slots there is for all.
+pub fn has_room_for_one(valves: &Valves, slots: usize) -> bool
+    requires few { slots ≤ 2 ^ 29 }
+    ensures { IsTrue result ↔ HasValveRoom valves.now slots }
+{
+    valves.len() < slots * 2 + CHECKS && valves.links() <= slots * 3 + CHECK_LINKS - 2
 }
 
 /// Whether there was room each time.

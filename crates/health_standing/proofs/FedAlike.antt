@@ -36,7 +36,7 @@ some_same : {X : Type 0} {x y : X} → Some x ≡ Some y → x ≡ y
 some_same e = cc
 
 -- the body of an alias whose target's health counts, by its target
-on_body : (rtype : RType) (its : Body) (name : List (List ℕ)) (its_type : RType) → evaluates its ≡ true
+pub on_body : (rtype : RType) (its : Body) (name : List (List ℕ)) (its_type : RType) → evaluates its ≡ true
     → target_in rtype its ≡ Some (name, its_type) → (its ≡ body.Alias name true) × (rtype ≡ its_type)
 on_body rtype (body.Values ttl values) name its_type on is = absurd (false≢true on)
 on_body rtype (body.Alias target true) name its_type on is =

@@ -1,3 +1,4 @@
+pub mod AliasCome
 pub mod Alone
 pub mod Bare
 pub mod Beside
@@ -7,6 +8,7 @@ pub mod GroupJoined
 pub mod GroupLeft
 pub mod Keyed
 pub mod Leading
+pub mod Led
 pub mod Moving
 pub mod Regrouped
 pub mod Reseated

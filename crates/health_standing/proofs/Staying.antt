@@ -365,13 +365,13 @@ module _ (before after : List Zone) (are_before : AreZones before) (are_after : 
 
   module _ (checks : List (ℕ × Check)) (numbers : List ℕ) (net : Net) (own : ℕ → ℕ) (ids : List ℕ) (valves : Valves) where
     -- a group with a valve has it still
-    record HasStill (zone : ℕ) (name : List (List ℕ)) (rtype : RType) (valve : ℕ)
+    pub record HasStill (zone : ℕ) (name : List (List ℕ)) (rtype : RType) (valve : ℕ)
         : Type 0 where
-      members : List Slotted
-      are : AreMembers after zone name rtype members
-      is : IsGroupValve seats net own members valve
+      pub members : List Slotted
+      pub are : AreMembers after zone name rtype members
+      pub is : IsGroupValve seats net own members valve
 
-    group_now : (zone : ℕ) (name : List (List ℕ)) (rtype : RType) (members : List Slotted)
+    pub group_now : (zone : ℕ) (name : List (List ℕ)) (rtype : RType) (members : List Slotted)
         (valve : ℕ) → AreMembers before zone name rtype members
         → IsGroupValve seats net own members valve → HasStill zone name rtype valve
     group_now zone name rtype members valve are w =

@@ -16,6 +16,7 @@ use Rattle.health_model.specs.Nodes.{CheckNode, GroupNode, Node, SetNode}
 use Rattle.health_model.specs.Sound.{IsSound}
 use Rattle.health_model.specs.Statuses.{Report}
 use Rattle.health_planning.proofs.ListedOnce.{one_ref, own_is}
+use Rattle.health_planning.specs.Building.{TellsAll}
 use Rattle.health_planning.specs.Changes.{ref_in}
 use Rattle.health_planning.specs.SetRefRecord.{SetRef}
 use Rattle.health_planning.specs.Tables.{HaveSlotsApart}
@@ -38,18 +39,19 @@ own_past seat v is = elim (cases_lt 200 seat) [
 ]
 
 -- sets whose seats stay are of one group with the same valves
-module _ (seats now : List Seat) (slot : ℕ) (moved : IsSeatedIn slot 0 seats now) where
-  own_kept : (s : ℕ) → s ≢ slot → seat_of now s ≡ seat_of seats s
-  own_kept s apart = ap own_part (moved.others s apart).0.0
+module _ (seats now : List Seat) (slot : ℕ)
+    (others : (s : ℕ) → s ≢ slot → TellsAll seats now s) where
+  pub own_kept : (s : ℕ) → s ≢ slot → seat_of now s ≡ seat_of seats s
+  own_kept s apart = ap own_part (others s apart).0.0
 
-  valves_kept : (members : List Slotted) → ((p : Slotted) → IsHere members p → p.slot ≢ slot)
+  pub valves_kept : (members : List Slotted) → ((p : Slotted) → IsHere members p → p.slot ≢ slot)
       → valves_of now members ≡ valves_of seats members
   valves_kept [] apart = refl
   valves_kept (p ∷ members) apart =
       ap (λ (n : ℕ). with_valve n (valves_of now members)) (own_kept p.slot (apart p (inl refl)))
       ∙ ap (with_valve (seat_of seats p.slot)) (valves_kept members (λ q m. apart q (inr m)))
 
-  plain_kept : (members : List Slotted) → ((p : Slotted) → IsHere members p → p.slot ≢ slot)
+  pub plain_kept : (members : List Slotted) → ((p : Slotted) → IsHere members p → p.slot ≢ slot)
       → plain_among now members ≡ plain_among seats members
   plain_kept [] apart = refl
   plain_kept (p ∷ members) apart =
@@ -155,9 +157,9 @@ module _ (before after : List Zone) (checks : Checks) (reports : List Report) (i
         behind = w.behind;
         within = w.within;
         condition = there net stands.own v h other ∙ w.condition
-            ∙ ap (λ (l : List ℕ). record { need = 1; inverted = false; feeders = l }) (sym (valves_kept seats now ref.slot moved members apart));
+            ∙ ap (λ (l : List ℕ). record { need = 1; inverted = false; feeders = l }) (sym (valves_kept seats now ref.slot moved.others members apart));
         its_own = own_there v 0 stands.own h other ∙ w.its_own
-            ∙ sym (plain_kept seats now ref.slot moved members apart);
+            ∙ sym (plain_kept seats now ref.slot moved.others members apart);
       }
 
   target_kept : (zone : ℕ) (rtype : RType) (its : Body) (target : List ℕ)
@@ -182,7 +184,7 @@ module _ (before after : List Zone) (checks : Checks) (reports : List Report) (i
               let other = set_other p.slot g.0 apart g.1 in
               inr (
                 g.0,
-                own_kept seats now ref.slot moved p.slot apart ∙ g.1,
+                own_kept seats now ref.slot moved.others p.slot apart ∙ g.1,
                 record {
                   behind = g.2.behind;
                   within = g.2.within;
@@ -205,7 +207,7 @@ module _ (before after : List Zone) (checks : Checks) (reports : List Report) (i
   node_kept valve (SetNode zone set) other (s, (here_was, seat)) =
       let apart = λ (e : s ≡ ref.slot).
       let mine = leaves.seat in let its = ap (seat_of seats) (sym e) ∙ seat in other (omega (arith, mine, its)) in
-      (s, (here_was, own_kept seats now ref.slot moved s apart ∙ seat))
+      (s, (here_was, own_kept seats now ref.slot moved.others s apart ∙ seat))
   node_kept valve (GroupNode zone name rtype) other (members, (are, w)) =
       (members, (are, group_kept members valve w))
 
@@ -252,7 +254,7 @@ module _ (before after : List Zone) (checks : Checks) (reports : List Report) (i
   group_apart s valve is e = let none = ap (group_seat now) e ∙ moved.group_is in omega (arith, is, none)
 
   own_was : (s valve : ℕ) → seat_of now s ≡ suc valve → seat_of seats s ≡ suc valve
-  own_was s valve is = sym (own_kept seats now ref.slot moved s (own_apart s valve is)) ∙ is
+  own_was s valve is = sym (own_kept seats now ref.slot moved.others s (own_apart s valve is)) ∙ is
 
   group_was : (s valve : ℕ) → group_seat now s ≡ suc valve → group_seat seats s ≡ suc valve
   group_was s valve is = sym (moved.others s (group_apart s valve is)).1 ∙ is
@@ -337,7 +339,7 @@ module _ (before after : List Zone) (checks : Checks) (reports : List Report) (i
       its_members = λ s valve is.
           let apart = group_apart s valve is in
           (moved.others s apart).0.0 ∙ stands.wired.its_members s valve (group_was s valve is)
-          ∙ sym (own_kept seats now ref.slot moved s apart);
+          ∙ sym (own_kept seats now ref.slot moved.others s apart);
     };
     told = told_now;
     fits = fits;

@@ -1,5 +1,6 @@
 pub mod Index
 pub mod Kin
+pub mod Leading
 pub mod Leaving
 pub mod Regrouping
 pub mod Unleading

@@ -76,7 +76,12 @@ fn tells_none(zones: &Zones, seats: &[Seat], group: Group) -> bool
 
 /// Whether the group of the set that a reference names has no valve. That set is read into the
 /// scratch.
-fn has_no_valve(zones: &Zones, seats: &[Seat], set: SetRef, scratch: &mut Scratch) -> bool
+pub(crate) fn has_no_valve(
+    zones: &Zones,
+    seats: &[Seat],
+    set: SetRef,
+    scratch: &mut Scratch,
+) -> bool
     requires { (named : RecordSet) × RefersTo zones.now.zones set named }
     ensures { (named : RecordSet) → RefersTo zones.now.zones set named → IsTrue result
         ↔ HasNoValve zones.now.zones seats.now set.zone named.name named.rtype }

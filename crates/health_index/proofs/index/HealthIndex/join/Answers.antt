@@ -4,7 +4,9 @@ use Rattle.health_index.proofs.ByOne.{index_regrouped, joined_by, recounts, whol
 use Rattle.health_index.specs.Index.{Index, StandsFor}
 use Rattle.health_index.specs.Regrouping.{IsSeatedIn, JoinsGroup, TellNoOther}
 use Rattle.health_planning.proofs.ListedOnce.{slot_below}
+use Rattle.health_planning.proofs.Members.{one_named}
 use Rattle.health_planning.specs.SetRefRecord.{SetRef}
+use Rattle.health_planning.specs.Wired.{is_watched}
 use Rattle.health_planning.specs.declared.seats.Seat.{Seat}
 use Rattle.health_valves.specs.Valves.{ValvesStandFor, with_own}
 use Rattle.health_index.proofs.index.HealthIndex.join.Goals as goal
@@ -103,3 +105,9 @@ returns-clause-joined c named valve joins names alike few =
             (c.own-own.ensures net own (subst (λ (i : Index). ValvesStandFor net own i.valves) (sym c.self.view_is) fits) ∙ ap own one));
       },
     )
+
+pub returns-clause-off : goal.returns-clause-off
+returns-clause-off c done named names =
+    let zones = c.args.zones.now.zones in
+    let j = (c.in-Some.ensures.found c.in-Some.told refl).1 in
+    ap is_watched (one_named zones c.args.set named j.set c.well_formed-2.ensures names j.names) ∙ j.off

@@ -2,6 +2,7 @@ use Rattle.std.proofs.Common.{◌≡◌, ◌≤◌, ◌<◌, ℕ, suc, List, len
 use Rattle.std.proofs.lemmas.Bool.{false≢true}
 use mathlib.Core.Path.{subst}
 use Rattle.health_index.proofs.ByOne.{joined_not_beside, joined_not_kept, left_not_beside, left_not_kept}
+use Rattle.health_index.proofs.Led.{led_not_beside, led_not_kept}
 use Rattle.health_index.proofs.Moving.{all_moved, zones_stay}
 use Rattle.health_index.proofs.Unled.{unled_not_beside, unled_not_kept}
 use Rattle.health_planning.specs.declared.seats.Seat.{Seat}
@@ -9,8 +10,9 @@ use Rattle.health_index.proofs.Staying.{leaves_follow, stands_with_valves}
 use Rattle.health_index.specs.Index.{Index, StandsFor}
 use Rattle.health_index.specs.Following.{AreSame, Follows, IsOpenTo, IsWay}
 use Rattle.health_index.specs.Kin.{kin_of}
+use Rattle.health_index.specs.Leading.{ComesToLead, GetsValve}
 use Rattle.health_index.specs.Regrouping.{Joins, JoinsGroup, Leaves, LeavesGroup, TellNoOther}
-use Rattle.health_index.specs.Room.{HasRoom}
+use Rattle.health_index.specs.Room.{HasRoom, HasRoomForAlias}
 use Rattle.health_index.specs.Unleading.{LeavesValve, Unleads}
 use Rattle.health_planning.specs.DeltaRecord.{Delta}
 use Rattle.health_planning.specs.Wired.{set_seat}
@@ -187,6 +189,44 @@ returns-clause-unled c ref valve gone leaves =
     let zones = c.args.zones.now.zones in
     let same = c.if-reseat.ensures.stays refl ∙ c.self.view_is in
     absurd (false≢true (c.if-regroup.ensures.unled ref valve gone (subst (λ (i : Index). LeavesValve zones i.seats i.valves ref valve) (sym same) leaves)).0)
+
+-- where one evaluated alias came
+pub returns-then-leaves_valves-clause-led : goal.returns-then-leaves_valves-clause-led
+returns-then-leaves_valves-clause-led c ref feeders come comes room =
+    let zones = c.args.zones.now.zones in
+    absurd (led_not_kept zones c.well_formed-2.ensures c.args.self.now.ids c.args.self.now.numbers c.args.self.now.seats c.args.self.now.valves c.args.delta.now ref feeders
+    (kept_by zones c.args.delta.now
+    (c.deref.ensures.value ∙ ap (λ (i : Index). i.ids) c.self.view_is)
+    (c.deref-2.ensures.value ∙ ap (λ (i : Index). i.numbers) c.self.view_is)
+    (c.deref-3.ensures.value ∙ ap (λ (i : Index). i.seats) c.self.view_is)
+    (ap (λ (i : Index). i.valves) c.self.view_is) (c.if-leaves_valves.ensures.0 refl)) come comes)
+
+pub returns-then-reseat-clause-led : goal.returns-then-reseat-clause-led
+returns-then-reseat-clause-led c ref feeders come comes room =
+    let zones = c.args.zones.now.zones in
+    let now = c.args.self.now in
+    absurd (led_not_beside zones c.well_formed-2.ensures now.ids now.numbers now.seats now.valves c.args.delta.now ref feeders
+    (subst (λ (i : Index). SparesValves zones i.seats c.args.delta.now) c.self.view_is (c.if-reseat.ensures.spares refl)) come comes)
+
+pub returns-then-regroup-clause-led : goal.returns-then-regroup-clause-led
+returns-then-regroup-clause-led c ref feeders come comes room =
+    let zones = c.args.zones.now.zones in
+    let same = c.if-reseat.ensures.stays refl ∙ c.self.view_is in
+    subst (λ (i : Index). GetsValve ref feeders i c.regroup.new.self) same
+    (c.if-regroup.ensures.led ref feeders come
+    (subst (λ (i : Index). ComesToLead zones i.ids i.numbers i.seats i.valves ref feeders) (sym same) comes)
+    (subst (λ (i : Index). HasRoomForAlias i c.args.zones.now.slots) (sym same) room)).1
+
+pub returns-then-follow-clause-led : goal.returns-then-follow-clause-led
+returns-then-follow-clause-led c ref feeders come comes room = absurd (come.zone (c.if-follow.ensures.zone refl))
+
+pub returns-clause-led : goal.returns-clause-led
+returns-clause-led c ref feeders come comes room =
+    let zones = c.args.zones.now.zones in
+    let same = c.if-reseat.ensures.stays refl ∙ c.self.view_is in
+    absurd (false≢true (c.if-regroup.ensures.led ref feeders come
+    (subst (λ (i : Index). ComesToLead zones i.ids i.numbers i.seats i.valves ref feeders) (sym same) comes)
+    (subst (λ (i : Index). HasRoomForAlias i c.args.zones.now.slots) (sym same) room)).0)
 
 pub returns-then-follow-clause-left : goal.returns-then-follow-clause-left
 returns-then-follow-clause-left c ref valve gone leaves = absurd (gone.zone (c.if-follow.ensures.zone refl))

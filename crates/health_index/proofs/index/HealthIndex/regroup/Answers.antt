@@ -1,6 +1,9 @@
 use Rattle.std.proofs.Common.{◌≡◌, ◌∷◌, [], true, Option, refl, sym, ◌∙◌}
 use Rattle.std.proofs.lemmas.Bool.{false≢true}
 use mathlib.Core.Path.{subst}
+use Rattle.health_index.proofs.Regrouped.{watched_on}
+use Rattle.health_index.specs.Leading.{ComesToLead, GetsValve}
+use Rattle.health_index.specs.Room.{HasRoom, HasRoomForAlias}
 use Rattle.health_index.specs.Regrouping.{IsCome, IsGone, Joins, JoinsGroup, Leaves, LeavesGroup, TellNoOther}
 use Rattle.health_index.specs.Index.{Index, StandsFor}
 use Rattle.health_index.specs.Unleading.{LeavesValve, Unleads}
@@ -46,14 +49,59 @@ returns-in-Some-clause-unled c ref valve gone leaves =
           (subst (λ (r : SetRef). Unleads r valve c.leave.new.self c.unlead.new.self) one u.1),
     )
 
+pub returns-then-join-clause-joined : goal.returns-then-join-clause-joined
+returns-then-join-clause-joined c ref named valve come joins names alike few =
+    let is = subst (λ (o : Option SetRef). IsCome c.args.delta.now o) c.in-Some-one_come.is c.one_come.ensures in
+    let one = one_same (sym is.added ∙ come.added) in
+    let zones = c.args.zones.now.zones in
+    let seats = c.args.self.now.seats in (
+      refl,
+      subst (λ (r : SetRef). Joins r valve c.args.self.now c.join.new.self) one
+          (c.if-join.ensures.joined named valve
+          (subst (λ (r : SetRef). JoinsGroup zones seats c.args.self.now.valves r valve) (sym one) joins)
+          (subst (λ (r : SetRef). RefersTo zones r named) (sym one) names)
+          (subst (λ (r : SetRef). TellNoOther zones seats r.zone named.name named.rtype valve) (sym one) alike) few).1,
+    )
+
+pub returns-then-join-clause-led : goal.returns-then-join-clause-led
+returns-then-join-clause-led c ref feeders come comes room =
+    let is = subst (λ (o : Option SetRef). IsCome c.args.delta.now o) c.in-Some-one_come.is c.one_come.ensures in
+    let one = one_same (sym is.added ∙ come.added) in
+    let zones = c.args.zones.now.zones in
+    let off = c.if-join.ensures.off refl comes.set (subst (λ (r : SetRef). RefersTo zones r comes.set) (sym one) comes.names) in
+    absurd (false≢true (sym off ∙ watched_on comes.set comes.on))
+
+pub lead_in-requires-clause-room : goal.lead_in-requires-clause-room
+lead_in-requires-clause-room c =
+    subst (λ (i : Index). HasRoom i c.args.zones.now.slots) (sym (c.if-join.ensures.stays refl)) c.requires.room
+
+pub returns-in-Some-one_come-clause-stands : goal.returns-in-Some-one_come-clause-stands
+returns-in-Some-one_come-clause-stands c before old reports stands left done =
+    c.lead_in.ensures.stands before old reports (subst (StandsFor before old reports) (sym (c.if-join.ensures.stays refl)) stands) left done
+
 pub returns-in-Some-one_come-clause-joined : goal.returns-in-Some-one_come-clause-joined
 returns-in-Some-one_come-clause-joined c ref named valve come joins names alike few =
     let is = subst (λ (o : Option SetRef). IsCome c.args.delta.now o) c.in-Some-one_come.is c.one_come.ensures in
     let one = one_same (sym is.added ∙ come.added) in
     let zones = c.args.zones.now.zones in
     let seats = c.args.self.now.seats in
-    subst (λ (r : SetRef). (c.join.result ≡ true) × Joins r valve c.args.self.now c.join.new.self) one
-    (c.join.ensures.joined named valve
+    absurd (false≢true
+    (c.if-join.ensures.joined named valve
     (subst (λ (r : SetRef). JoinsGroup zones seats c.args.self.now.valves r valve) (sym one) joins)
     (subst (λ (r : SetRef). RefersTo zones r named) (sym one) names)
-    (subst (λ (r : SetRef). TellNoOther zones seats r.zone named.name named.rtype valve) (sym one) alike) few)
+    (subst (λ (r : SetRef). TellNoOther zones seats r.zone named.name named.rtype valve) (sym one) alike) few).0)
+
+pub returns-in-Some-one_come-clause-led : goal.returns-in-Some-one_come-clause-led
+returns-in-Some-one_come-clause-led c ref feeders come comes room =
+    let is = subst (λ (o : Option SetRef). IsCome c.args.delta.now o) c.in-Some-one_come.is c.one_come.ensures in
+    let one = one_same (sym is.added ∙ come.added) in
+    let zones = c.args.zones.now.zones in
+    let same = c.if-join.ensures.stays refl in
+    let l = c.lead_in.ensures.led feeders
+    (subst (λ (i : Index). ComesToLead zones i.ids i.numbers i.seats i.valves c.in-Some-one_come.set feeders) (sym same)
+    (subst (λ (r : SetRef). ComesToLead zones c.args.self.now.ids c.args.self.now.numbers c.args.self.now.seats c.args.self.now.valves r feeders) (sym one) comes))
+    (subst (λ (i : Index). HasRoomForAlias i c.args.zones.now.slots) (sym same) room) in (
+      l.0,
+      subst (λ (i : Index). GetsValve ref feeders i c.lead_in.new.self) same
+          (subst (λ (r : SetRef). GetsValve r feeders c.join.new.self c.lead_in.new.self) one l.1),
+    )
