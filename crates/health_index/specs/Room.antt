@@ -7,6 +7,7 @@ use Rattle.health_index.specs.Index.{Index}
 
 -- An index can be laid out anew over so many slots: 200 checks of at most 255 children, which are kept by
 -- two numbers more each, a valve for each set and for each group, one link into a group and two into a set.
+-- Twice as many sets can be listed as there are slots, since those that went stay listed.
 pub record HasRoom (index : Index) (slots : ℕ) : Type 0 where
   pub few : slots ≤ 2 ^ 29
   pub ids : 200 ≤ index.space.ids
@@ -16,8 +17,8 @@ pub record HasRoom (index : Index) (slots : ℕ) : Type 0 where
   pub seen_before : 200 ≤ index.space.seen_before
   pub kin : 51400 ≤ index.space.kin
   pub seats : slots ≤ index.space.seats
-  pub refs : slots ≤ index.space.refs
-  pub members : slots ≤ index.space.members
+  pub refs : slots * 2 ≤ index.space.refs
+  pub members : slots * 2 ≤ index.space.members
   pub triggers : slots * 2 + 200 ≤ index.space.triggers
   pub links : slots * 3 + 51200 ≤ index.space.links
   pub valves : HasRoomFor index.valves (slots * 2 + 200) (slots * 3 + 51200)

@@ -78,7 +78,7 @@ pub struct HealthIndex {
     /// The numbers of the checks before the last command, and what their checkers saw.
     ids_before: Vec<u32>,
     seen_before: Vec<Option<Checkers>>,
-    /// The sets with valves of their own.
+    /// The sets with valves of their own, and aliases that went since all was laid out.
     refs: Vec<SetRef>,
     /// The sets of target groups with valves; and while all is laid out, the sets that had valves.
     members: Vec<SetRef>,
@@ -231,7 +231,8 @@ impl HealthIndex {
     /// to its target group, it costs a look at what fed its valve, which goes on without a node. Where one
     /// alone came, of a group to which none leads, and another one leads to its target group, it costs a look at
     /// its group and at the first set of its target group: its valve comes behind all. Valves that went on
-    /// without a node take room until all are laid out anew; where there is none for one more, they are.
+    /// without a node take room until all are laid out anew, and so do the aliases in the list of sets with
+    /// valves; where there is none for one more, all is laid out anew.
     ///
     /// Where it tells of no zone, and no calculated check came, went or got other children: where
     /// checks have the numbers of those before, as after UpdateHealthCheck, or one of an endpoint came

@@ -7,7 +7,9 @@
 //! The valves are planned (`health_planning`), and then laid out. After a command this is done anew,
 //! in room that was made before (`reserving`), but where no valve changes by the sets that went and
 //! came (`valve_leaving`): then all stays as it is, or their seats alone change; and where one set that nothing
-//! decides came or went (`regrouping`): then how many such sets its group counts does. And where checks keep their
+//! decides came or went (`regrouping`): then how many such sets its group counts does; or one evaluated alias, beside
+//! another with its target group: then its valve comes behind all (`alias_coming`), or goes on without a node
+//! (`unleading`), both of `health_standing`. And where checks keep their
 //! numbers, or one of an endpoint comes or goes, and no calculated check gets other children (`kin`,
 //! `following`): then the valves of checks change in place. Each other check keeps its valve
 //! (`valve_numbers`), also where all is laid out anew.

@@ -96,14 +96,14 @@ pub fn room_for_slots(
 
     ensures few { OnOk result (slots ≤ 2 ^ 29) }
     ensures seats_room { OnOk result (slots ≤ vec_capacity seats.new) }
-    ensures refs_room { OnOk result (slots ≤ vec_capacity refs.new) }
-    ensures members_room { OnOk result (slots ≤ vec_capacity members.new) }
+    ensures refs_room { OnOk result (slots * 2 ≤ vec_capacity refs.new) }
+    ensures members_room { OnOk result (slots * 2 ≤ vec_capacity members.new) }
     ensures blueprint_room { OnOk result (slots * 2 + 200 ≤ blueprint.new.room + length blueprint.new.triggers) }
     ensures links_room { OnOk result
         (slots * 3 + 51200 ≤ blueprint.new.links_room + length blueprint.new.links) }
     ensures valves_room { OnOk result (HasRoomFor valves.new (slots * 2 + 200) (slots * 3 + 51200)) }
-    ensures ready { slots ≤ 2 ^ 29 → slots ≤ vec_capacity seats.old → slots ≤ vec_capacity refs.old
-        → slots ≤ vec_capacity members.old
+    ensures ready { slots ≤ 2 ^ 29 → slots ≤ vec_capacity seats.old → slots * 2 ≤ vec_capacity refs.old
+        → slots * 2 ≤ vec_capacity members.old
         → slots * 2 + 200 ≤ blueprint.old.room + length blueprint.old.triggers
         → slots * 3 + 51200 ≤ blueprint.old.links_room + length blueprint.old.links
         → HasRoomFor valves.old (slots * 2 + 200) (slots * 3 + 51200) → IsOk result }
@@ -115,10 +115,12 @@ pub fn room_for_slots(
     let Ok(()) = make_room(seats, slots) else {
         return Err(OutOfMemory);
     };
-    let Ok(()) = make_room(refs, slots) else {
+    // Sets that went stay listed until all is laid out anew.
+    let listed = slots * 2;
+    let Ok(()) = make_room(refs, listed) else {
         return Err(OutOfMemory);
     };
-    let Ok(()) = make_room(members, slots) else {
+    let Ok(()) = make_room(members, listed) else {
         return Err(OutOfMemory);
     };
     let all = slots * 2 + CHECKS;

@@ -30,7 +30,7 @@ pub struct AliasFeeders {
 }
 
 /// The valve of the target group of an alias, given as one more; 0 where it has none.
-pub fn target_seat(zones: &Zones, seats: &[Seat], set: SetRef) -> u32
+fn target_seat(zones: &Zones, seats: &[Seat], set: SetRef) -> u32
     ensures { (named : RecordSet) → RefersTo zones.now.zones set named
         → IsTargetSeat zones.now.zones seats.now set.zone named result }
 {

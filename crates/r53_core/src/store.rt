@@ -1,7 +1,7 @@
 //! The store.
 
 ghost use Rattle.std.specs.Prelude.{◌≡◌, ◌≢◌, ◌≤◌, ◌+◌, ◌⊎◌, ℕ, List, [], ◌∷◌, ◌++◌, drop, length, Contains};
-ghost use Rattle.std.specs.Prelude.{◌↔◌, IfOk, IfSome, IsErrOf, IsTrue, Ok, Err, None, Some};
+ghost use Rattle.std.specs.Prelude.{◌↔◌, IfOk, IfSome, IsErrOf, IsSome, IsTrue, Ok, Err, None, Some};
 ghost use Rattle.config_opening.specs.Laws.{HasShortLists};
 ghost use Rattle.sound_configs.specs.OctetsOfCommandOctets.{command_octets};
 ghost use Rattle.config_opening.specs.Compacting.{UnlessFaulty, WhereNone};
@@ -16,7 +16,7 @@ ghost use Rattle.sound_configs.specs.LawsOfConfigModel.{IsBounded};
 ghost use Rattle.sound_configs.specs.MadeRecord.{Made};
 ghost use Rattle.sound_configs.specs.RefusalRecord.TheVariants as refusal;
 ghost use Rattle.config_opening.specs.Opening.{IsFault, Syncs};
-ghost use Rattle.sound_configs.specs.Engine.{Engine, QueryGives, ReportSteps, is_healthy, watched_in};
+ghost use Rattle.sound_configs.specs.Engine.{Engine, QueryGives, ReportSteps, is_healthy, served_in, watched_in};
 ghost use Rattle.sound_configs.specs.CompactedRecord.TheVariants as Compacted;
 ghost use Rattle.sound_configs.specs.ReportedRecord.TheVariants as Reported;
 ghost use Rattle.check_model.specs.Checks.{Checks};
@@ -35,6 +35,7 @@ ghost use Rattle.r53_core.specs.Stores.{opened};
 ghost use Rattle.config_opening.specs.Kept.{IsAccepted};
 ghost use Rattle.record_set.specs.Sets.{key_of};
 ghost use Rattle.settled_replies.specs.Settled.{AnswersAll, IsSettled};
+ghost use Rattle.settled_replies.specs.Settling.{CanSettle};
 ghost use Rattle.sound_configs.specs.Octets.{snapshot};
 ghost use Rattle.record_set.specs.declared.sets.RecordSet.{RecordSet};
 ghost use Rattle.query_engine.specs.Looking.{RefersTo};
@@ -361,6 +362,8 @@ impl Store {
             → IsSettled engine.config.zones engine.config.collections.list
             (is_healthy engine.config engine.reports) tables.now (drop 2 packet.now)
             (drop 2 reply.new.bytes)) }
+        ensures exact { (engine : Engine) → StandsFor engine self.old
+            → (IsSome result ↔ CanSettle (served_in engine tables.now) packet.now) }
         ensures same { self.new ≡ self.old }
         ensures length { IfSome result (λ n. n ≡ length reply.new.bytes) }
         ensures room { reply.new.room ≡ reply.old.room }

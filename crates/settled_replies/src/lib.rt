@@ -1,5 +1,5 @@
-//! Replies that are the same whoever asks, but for the ID: those of a name by one set, of a name without a set of the
-//! type, of one that doesn't exist, and referrals.
+//! Replies that are the same whoever asks, but for the ID: those of a name by one set, of a name with neither a set of
+//! the type nor a CNAME set, of one that doesn't exist, and referrals.
 //!
 //! Whoever keeps such a reply needn't make it again, as long as the zones and the tables stay and no
 //! set becomes healthy or unhealthy.

@@ -31,8 +31,8 @@ use zone_lookup::{cuts_are_nearest, find_zone};
 /// says how many octets it has: where one set answers the name, or the wildcard for it, alone, that a failover chooses
 /// perhaps, or a place, a latency or a block of the subnet that the query tells; where there is no set of the type, nor
 /// a CNAME set, or the name doesn't exist; and where it is at or below a zone cut. None else, though to other packets
-/// the reply may be the same for all, too: to those that are refused, and where an alias or a CNAME record leads on, or
-/// the one set is weighted or a multivalue answer. It takes no memory.
+/// the reply may be the same for all, too, such as to one that is refused, or of a name with one weighted set alone. It
+/// takes no memory.
 pub fn settle<V: HealthView>(
     zones: &Zones,
     view: &V,

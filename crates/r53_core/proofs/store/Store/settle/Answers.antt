@@ -10,6 +10,9 @@ use Rattle.r53_core.proofs.Settling.{if_some}
 use Rattle.r53_core.specs.Stores.{StandsFor, State}
 use Rattle.config_opening.specs.Kept.{State as Kept, config_in}
 use Rattle.settled_replies.specs.Settled.{AnswersAll, IsSettled}
+use Rattle.settled_replies.specs.Settling.{CanSettle}
+use Rattle.query_engine.specs.Asking.{served_by}
+use Rattle.std.specs.Prelude.{◌↔◌, IsSome}
 use Rattle.sound_configs.specs.Served.{AreServed}
 use Rattle.query_engine.specs.Tables.{Table}
 use Rattle.r53_core.proofs.store.Store.settle.Goals as goal
@@ -51,3 +54,22 @@ returns-clause-settled c =
     (is_healthy its_config engine.reports) c.args.tables.now (drop 2 c.args.packet.now) (drop 2 c.settle.new.reply.bytes)) (sym its.config)
     (at_table (is_healthy config engine.reports) agrees))
     c.settle.ensures.settled
+
+pub returns-clause-exact : goal.returns-clause-exact
+returns-clause-exact c engine stands =
+    let zones = c.zones.ensures ∙ ap (λ (k : Kept). k.table) c.config-config.ensures in
+    let config = config_of c.self.inside.kept in
+    let its = subst (λ (s : State). StandsFor engine s) (sym c.self.view_is) stands in
+    let agrees = c.index_serves.ensures c.self.inside.kept.config.table.zones config engine.reports
+    c.self.inside.index refl its.health in
+    let at_table = subst (λ (t : Table). (healthy : ℕ → SetKey → Bool)
+    → Agrees t.zones (healthy_in c.self.inside.index) healthy
+    → (IsSome c.settle.result ↔ CanSettle (served_by t.zones t.collections.list healthy c.args.tables.now) c.args.packet.now)) zones
+    c.settle.ensures.exact in
+    subst (λ (its_config : Config). IsSome c.settle.result ↔ CanSettle (record {
+      zones = its_config.zones;
+      collections = its_config.collections.list;
+      healthy = is_healthy its_config engine.reports;
+      tables = c.args.tables.now;
+    }) c.args.packet.now) (sym its.config)
+    (at_table (is_healthy config engine.reports) agrees)
