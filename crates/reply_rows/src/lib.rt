@@ -1,5 +1,5 @@
-//! Rows by hand over replies from the root zone, which no hosted zone is: octet by octet; and which of all are the same
-//! whoever asks.
+//! Rows by hand over replies from the root zone, which no hosted zone is: octet by octet, as they are made for one asker
+//! and as they are settled for all; and which are settled.
 #![tactic(auto)]
 
 #[cfg(test)]

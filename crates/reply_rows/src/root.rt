@@ -1,7 +1,7 @@
 //! Sets of the root zone of RFC 1034, 6.1, and queries of 6.2.4 to 6.2.6; the SOA record in answers
 //! is that of RFC 2308.
 
-use crate::asking::{question, reply_to};
+use crate::asking::{packet, question, reply_to, settled_to};
 use crate::made::{Set, root};
 use rdata::RType;
 use std::alloc::Global;
@@ -26,7 +26,8 @@ const ROOT: [Set; 5] = [
     ("A.ISI.EDU", RType::A, &["26.3.0.103"]),
 ];
 
-/// Compares the reply to a question: its id, flags and counts, and behind the question the records.
+/// Compares the reply to a question, as it is made for one asker and as it is settled for all: its id, flags and counts,
+/// and behind the question the records.
 fn compare(
     rt: &impl Abort,
     alloc: Global,
@@ -35,13 +36,26 @@ fn compare(
     head: &[u8; 12],
     records: &[u8],
 ) -> Result<(), Fail> {
-    let question = question(rt, alloc, asked.0, asked.1)?;
-    let found = reply_to(rt, alloc, zones, &question)?;
+    let question = question(rt, alloc, asked.0, asked.1, 1)?;
     let mut wanted = Vec::new(alloc);
     wanted.extend_from_slice(head)?;
     wanted.extend_from_slice(&question)?;
     wanted.extend_from_slice(records)?;
-    assert_eq!(rt; found.as_slice(), wanted.as_slice(), "{}", asked.0);
+    let packet = packet(alloc, &question, b"")?;
+    let made = reply_to(rt, alloc, zones, &packet)?;
+    assert_eq!(rt;
+        made.as_slice(),
+        wanted.as_slice(),
+        "made for one asker: {}",
+        asked.0
+    );
+    let settled = settled_to(rt, alloc, zones, &packet)?;
+    assert_eq!(rt;
+        settled.as_slice(),
+        wanted.as_slice(),
+        "settled for all: {}",
+        asked.0
+    );
     Ok(())
 }
 

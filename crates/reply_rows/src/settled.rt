@@ -1,19 +1,15 @@
-//! Which replies are settled, of sets of all policies: those that are the same whoever asks.
+//! Which replies are settled, of sets of all policies. Each of these is the same whoever asks; of the others some are,
+//! too.
 
-use crate::asking::question;
+use crate::asking::{packet, question, settled_to};
 use crate::made::{name, root_of, values};
-use dns_wire::Reply;
-use geo_latency::Tables;
-use policy_select::AllHealthy;
 use rdata::RType;
 use record_set::{Body, RecordSet};
-use routing::{Ident, Place, Role, Routing};
-use settled_replies::settle;
+use routing::{Ident, Place, Region, Role, Routing};
 use std::alloc::Global;
 use std::process::Abort;
 use std::test::Fail;
-use zone_lookup::are_served;
-use zone_table::{Scratch, Sets, Zones};
+use zone_table::{Sets, Zones};
 
 /// How a set is chosen.
 #[derive(Clone, Copy)]
@@ -22,14 +18,19 @@ enum Kind {
     Primary,
     Secondary,
     Anywhere,
+    Near,
+    Block,
     Weighted,
     Many,
     /// An alias of the simple set of this name.
     Alias,
 }
 
-/// The sets: owner, type, how each is chosen, and its value or its target.
-const SETS: [(&str, RType, Kind, &str); 13] = [
+/// A set: its owner, its type, how it is chosen, and its value or its target.
+type Set = (&'static str, RType, Kind, &'static str);
+
+/// The sets.
+const SETS: [Set; 17] = [
     (
         ".",
         RType::Soa,
@@ -38,10 +39,14 @@ const SETS: [(&str, RType, Kind, &str); 13] = [
     ),
     (".", RType::Ns, Kind::Simple, "a."),
     ("alias", RType::A, Kind::Alias, "one"),
+    ("*.alias", RType::A, Kind::Alias, "one"),
+    ("block", RType::A, Kind::Block, "192.0.2.9"),
     ("cut", RType::Ns, Kind::Simple, "ns.cut."),
     ("ns.cut", RType::A, Kind::Simple, "192.0.2.1"),
     ("many", RType::A, Kind::Many, "192.0.2.2"),
     ("name", RType::Cname, Kind::Simple, "one."),
+    ("*.name", RType::Cname, Kind::Simple, "one."),
+    ("near", RType::A, Kind::Near, "192.0.2.10"),
     ("one", RType::A, Kind::Simple, "192.0.2.3"),
     ("pair", RType::A, Kind::Primary, "192.0.2.4"),
     ("pair", RType::A, Kind::Secondary, "192.0.2.5"),
@@ -50,41 +55,63 @@ const SETS: [(&str, RType, Kind, &str); 13] = [
     ("*.wild", RType::A, Kind::Simple, "192.0.2.8"),
 ];
 
-/// Whether the reply is settled to a question for a name and a type: without a subnet of the client, and with one.
-const ROWS: [(&str, u8, bool, bool); 20] = [
-    // One set, a wildcard's, one that a failover chooses, and one by places.
-    ("one", 1, true, true),
-    ("name", 5, true, true),
-    ("any.wild", 1, true, true),
-    ("pair", 1, true, true),
-    ("place", 1, false, true),
+/// A question for a name and a type, and whether its reply is settled: without an OPT record, where that tells a subnet of
+/// the client, and where it tells one of no bits.
+type Row = (&'static str, u8, bool, bool, bool);
+
+/// The questions.
+const ROWS: [Row; 29] = [
+    // One set, also at the apex, a wildcard's, and one that a failover chooses.
+    ("one", 1, true, true, true),
+    ("name", 5, true, true, true),
+    (".", 6, true, true, true),
+    (".", 2, true, true, true),
+    ("any.wild", 1, true, true, true),
+    ("any.name", 5, true, true, true),
+    ("pair", 1, true, true, true),
+    // One by places, latencies and address blocks.
+    ("place", 1, false, true, false),
+    ("near", 1, false, true, false),
+    ("block", 1, false, true, false),
     // No data: of the type, at an empty non-terminal, and by a wildcard.
-    ("one", 28, true, true),
-    ("alias", 28, true, true),
-    ("weight", 28, true, true),
-    ("wild", 1, true, true),
-    ("any.wild", 28, true, true),
+    ("one", 28, true, true, true),
+    (".", 1, true, true, true),
+    ("alias", 28, true, true, true),
+    ("weight", 28, true, true, true),
+    ("wild", 1, true, true, true),
+    ("any.wild", 28, true, true, true),
     // No such name, also below one that has sets.
-    ("none", 1, true, true),
-    ("below.one", 1, true, true),
+    ("none", 1, true, true, true),
+    ("below.one", 1, true, true, true),
     // Below a zone cut, and at it.
-    ("host.cut", 1, true, true),
-    ("cut", 1, true, true),
-    ("ns.cut", 1, true, true),
-    // Aliases, CNAME records, what words choose, and what is refused.
-    ("alias", 1, false, false),
-    ("name", 1, false, false),
-    ("weight", 1, false, false),
-    ("many", 1, false, false),
-    ("one", 255, false, false),
+    ("host.cut", 1, true, true, true),
+    ("ns.cut", 1, true, true, true),
+    ("cut", 1, true, true, true),
+    ("cut", 2, true, true, true),
+    // Aliases and CNAME records, a wildcard's too, what words choose, and what is refused.
+    ("alias", 1, false, false, false),
+    ("any.alias", 1, false, false, false),
+    ("name", 1, false, false, false),
+    ("any.name", 1, false, false, false),
+    ("weight", 1, false, false, false),
+    ("many", 1, false, false, false),
+    ("one", 255, false, false, false),
 ];
 
-/// The policy of a set.
-fn routing(kind: Kind, ident: Ident) -> Routing {
+/// Behind a question the OPT record of a client subnet: 203.0.113.0/24.
+const TOLD: &[u8; 22] = b"\0\0\x29\x10\0\0\0\0\0\0\x0b\0\x08\0\x07\0\x01\x18\0\xcb\0\x71";
+
+/// That of 0.0.0.0/0.
+const UNTOLD: &[u8; 19] = b"\0\0\x29\x10\0\0\0\0\0\0\x08\0\x08\0\x04\0\x01\0\0";
+
+/// The policy of a set, by this region or location where it has one.
+fn routing(kind: Kind, ident: Ident, region: Region, location: Ident) -> Routing {
     match kind {
         Kind::Primary => Routing::Failover(ident, Role::Primary),
         Kind::Secondary => Routing::Failover(ident, Role::Secondary),
         Kind::Anywhere => Routing::Geolocation(ident, Place::Anywhere),
+        Kind::Near => Routing::Latency(ident, region),
+        Kind::Block => Routing::Cidr(ident, 1, location),
         Kind::Weighted => Routing::Weighted(ident, 1),
         Kind::Many => Routing::Multivalue(ident),
         _ => Routing::Simple,
@@ -92,9 +119,11 @@ fn routing(kind: Kind, ident: Ident) -> Routing {
 }
 
 /// The set of a row.
-fn set(rt: &impl Abort, alloc: Global, row: &(&str, RType, Kind, &str)) -> RecordSet {
+fn set(rt: &impl Abort, alloc: Global, row: &Set) -> RecordSet {
     let (owner, rtype, kind, text) = *row;
     let ident = Ident::new(text.as_bytes()).expect(rt, "an identifier");
+    let region = Region::new(b"a").expect(rt, "a region");
+    let location = Ident::new(b"*").expect(rt, "a location");
     let body = match kind {
         Kind::Alias => Body::Alias {
             target: name(rt, text),
@@ -108,83 +137,85 @@ fn set(rt: &impl Abort, alloc: Global, row: &(&str, RType, Kind, &str)) -> Recor
     RecordSet {
         name: name(rt, owner),
         rtype,
-        routing: routing(kind, ident),
+        routing: routing(kind, ident, region, location),
         body,
         check: None,
     }
 }
 
-/// A zone of all of them.
-fn zones(rt: &impl Abort, alloc: Global) -> Zones {
+/// The sets of these rows.
+fn sets(rt: &impl Abort, alloc: Global, rows: &[Set]) -> Sets {
     let mut list = Vec::new(alloc);
-    for row in &SETS {
+    for row in rows {
         assert!(rt; list.push(set(rt, alloc, row)).is_ok(), "memory");
     }
-    root_of(rt, alloc, Sets::from_vec(list))
+    Sets::from_vec(list)
 }
 
-/// Behind a question the OPT record of a client subnet: 203.0.113.0/24.
-const SUBNET: &[u8; 22] = b"\0\0\x29\x10\0\0\0\0\0\0\x0b\0\x08\0\x07\0\x01\x18\0\xcb\0\x71";
-
-/// A packet of a question, with the subnet or without it.
-fn packet(alloc: Global, question: &[u8], has_subnet: bool) -> Result<Vec<u8>, Fail> {
-    let mut octets = Vec::new(alloc);
-    octets.extend_from_slice(&[
-        0x12,
-        0x34,
-        0x01,
-        0,
-        0,
-        1,
-        0,
-        0,
-        0,
-        0,
-        0,
-        u8::from(has_subnet),
-    ])?;
-    octets.extend_from_slice(question)?;
-    if has_subnet {
-        octets.extend_from_slice(SUBNET)?;
-    }
-    Ok(octets)
+/// Whether the reply to a question is settled, with this behind it.
+fn is_settled(
+    rt: &impl Abort,
+    alloc: Global,
+    zones: &Zones,
+    question: &[u8],
+    opt: &[u8],
+) -> Result<bool, Fail> {
+    let packet = packet(alloc, question, opt)?;
+    let settled = settled_to(rt, alloc, zones, &packet)?;
+    Ok(!settled.is_empty())
 }
 
-/// Whether the reply to a packet is settled, where all sets are healthy.
-fn is_settled(rt: &impl Abort, alloc: Global, zones: &Zones, packet: &[u8]) -> Result<bool, Fail> {
-    let mut scratch = Scratch::new(alloc)?;
-    let mut reply = Reply::new(alloc, 4096)?;
-    assert!(rt; are_served(zones, &mut scratch), "zones to answer from");
-    let tables = Tables::new(alloc);
-    let found = settle(
-        zones,
-        &AllHealthy,
-        &tables,
-        packet,
-        &mut scratch,
-        &mut reply,
+/// Compares whether the reply to a question of class IN is settled, with this behind it.
+fn compare(
+    rt: &impl Abort,
+    alloc: Global,
+    zones: &Zones,
+    asked: (&str, u8),
+    opt: &[u8],
+    wanted: bool,
+) -> Result<(), Fail> {
+    let question = question(rt, alloc, asked.0, asked.1, 1)?;
+    let found = is_settled(rt, alloc, zones, &question, opt)?;
+    assert_eq!(rt;
+        found,
+        wanted,
+        "{} {}, {} octets behind it",
+        asked.0,
+        asked.1,
+        opt.len()
     );
-    Ok(found.is_some())
+    Ok(())
+}
+
+/// Compares what is settled with what a row says.
+fn compare_row(rt: &impl Abort, alloc: Global, zones: &Zones, row: &Row) -> Result<(), Fail> {
+    let (owner, qtype, plain, told, untold) = *row;
+    compare(rt, alloc, zones, (owner, qtype), b"", plain)?;
+    compare(rt, alloc, zones, (owner, qtype), TOLD, told)?;
+    compare(rt, alloc, zones, (owner, qtype), UNTOLD, untold)
+}
+
+/// Compares all rows.
+fn compare_all(rt: &impl Abort, alloc: Global, zones: &Zones, rows: &[Row]) -> Result<(), Fail> {
+    for row in rows {
+        compare_row(rt, alloc, zones, row)?;
+    }
+    Ok(())
 }
 
 #[test]
 fn some_are_settled(rt: HostRuntime) -> Result<(), Fail> {
     let alloc = rt.alloc();
-    let zones = zones(&rt, alloc);
-    for (owner, qtype, plain, told) in ROWS {
-        let question = question(&rt, alloc, owner, qtype)?;
-        let without = packet(alloc, &question, false)?;
-        let with = packet(alloc, &question, true)?;
-        assert_eq!(&rt;
-            is_settled(&rt, alloc, &zones, &without)?,
-            plain,
-            "{owner} {qtype}"
-        );
-        assert_eq!(&rt;
-            is_settled(&rt, alloc, &zones, &with)?,
-            told,
-            "{owner} {qtype}"
-        );
-    }
+    let zones = root_of(&rt, alloc, sets(&rt, alloc, &SETS));
+    compare_all(&rt, alloc, &zones, &ROWS)
+}
+
+#[test]
+fn another_class_is_not(rt: HostRuntime) -> Result<(), Fail> {
+    let alloc = rt.alloc();
+    let zones = root_of(&rt, alloc, sets(&rt, alloc, &SETS));
+    let question = question(&rt, alloc, "one", 1, 3)?;
+    let found = is_settled(&rt, alloc, &zones, &question, b"")?;
+    assert!(&rt; !found, "one of class CH");
     Ok(())
 }
