@@ -4,7 +4,7 @@ ghost use Rattle.std.specs.Prelude.{◌≡◌, ◌≤◌, ◌<◌, ℕ, length, 
 ghost use Rattle.zone_model.specs.RecordSetRecord.{RecordSet};
 ghost use Rattle.zone_model.specs.Types.{number_of};
 ghost use Rattle.zone_model.specs.Zones.{IsRising};
-ghost use Rattle.set_search.specs.Found.{EndsBetween, IsBracket, IsCount, IsGroupAt, IsOf, IsPastName, IsSetOfGroupAt, IsTypedAt};
+ghost use Rattle.set_search.specs.Found.{EndsBetween, IsBracket, IsCount, IsGroupAt, IsOf, IsSetOfGroupAt, IsTypedAt};
 ghost use Rattle.set_search.specs.declared.bounds.Bound.TheVariants.{From, PastGroup};
 
 use crate::bounds::Stop;
@@ -201,7 +201,7 @@ fn end_behind<S: SetList>(sets: &S, name: &Name, rtype: RType, place: usize) -> 
     requires member { IsSetOfGroupAt (S.sets sets.now) name.now rtype place }
     ensures { IsCount (S.sets sets.now) (PastGroup name.now rtype) result }
 {
-    let high = past_name(sets, place);
+    let high = sets.past_name(place);
     if high - place < 2 {
         return high;
     }
@@ -210,59 +210,6 @@ fn end_behind<S: SetList>(sets: &S, name: &Name, rtype: RType, place: usize) -> 
     }
     let (last, high) = end_round(sets, name, rtype, place, high - 1);
     end_between(sets, name, rtype, last, high)
-}
-
-/// A place behind all sets of the name that the set at a place has: mostly the first one, where the
-/// set is told apart from it, or where no more sets are.
-fn past_name<S: SetList>(sets: &S, place: usize) -> usize
-    requires { place < length (S.sets sets.now) }
-    ensures { IsPastName (S.sets sets.now) place result }
-{
-    let (near, high) = past_round(sets, place);
-    past_between(sets, place, near, high)
-}
-
-/// The place of a set that isn't told apart from the one at a place, and a place behind all sets of
-/// that one's name, found in doubling steps.
-fn past_round<S: SetList>(sets: &S, place: usize) -> (usize, usize)
-    requires { place < length (S.sets sets.now) }
-    ensures from { place ≤ result.0 }
-    ensures below { result.0 < result.1 }
-    ensures past { IsPastName (S.sets sets.now) place result.1 }
-{
-    let mut near = place;
-    let high = sets.count();
-    while near + 1 < high {
-        let step = near - place + 1;
-        if step >= high - near {
-            return (near, high);
-        }
-        if sets.are_told_apart(place, near + step) {
-            return (near, near + step);
-        }
-        near += step;
-    }
-    (near, high)
-}
-
-/// The place behind all sets of the name of the set at a place that halving finds between two.
-fn past_between<S: SetList>(sets: &S, place: usize, near: usize, high: usize) -> usize
-    requires from { place ≤ near }
-    requires below { near < high }
-    requires past { IsPastName (S.sets sets.now) place high }
-    ensures { IsPastName (S.sets sets.now) place result }
-{
-    let mut near = near;
-    let mut high = high;
-    while near + 1 < high {
-        let middle = near + (high - near) / 2;
-        if sets.are_told_apart(place, middle) {
-            high = middle;
-        } else {
-            near = middle;
-        }
-    }
-    high
 }
 
 /// The place of a set of a group, and a place behind the group's last one, found in doubling steps

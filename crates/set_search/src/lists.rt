@@ -4,7 +4,7 @@ ghost use Rattle.std.specs.Prelude.{◌≡◌, ◌<◌, ℕ, List, length, slice
 ghost use Rattle.zone_model.specs.Suffix.{EndsWith};
 ghost use Rattle.zone_model.specs.RecordSetRecord.{RecordSet};
 ghost use Rattle.set_search.specs.Bounds.{is_before};
-ghost use Rattle.set_search.specs.Found.{DifferInName, IsOf, TypeOrNone};
+ghost use Rattle.set_search.specs.Found.{DifferInName, IsOf, IsPastName, TypeOrNone};
 ghost use Rattle.set_search.specs.Stops.{bound_of};
 
 use crate::bounds::Stop;
@@ -52,6 +52,16 @@ pub trait SetList {
         ensures { IsTrue result → DifferInName (sets self.now) place other }
     {
         false
+    }
+
+    /// A place behind all sets of the name that the set at a place has. Where the one beside it isn't
+    /// told apart from it, this is mostly the place of the first one that is; a list that tells none
+    /// apart gives its end.
+    fn past_name(&self, place: usize) -> usize
+        requires { place < length (sets self.now) }
+        ensures { IsPastName (sets self.now) place result }
+    {
+        self.count()
     }
 }
 

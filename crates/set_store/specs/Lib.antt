@@ -1,3 +1,4 @@
+pub mod Ends
 pub mod Heads
 pub mod Index
 pub mod Packed

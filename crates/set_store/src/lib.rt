@@ -4,6 +4,7 @@
 //! are reserved before they are needed, so that putting, replacing and taking want no memory.
 #![tactic(auto)]
 
+mod ends;
 mod growth;
 mod hashes;
 mod heads;

@@ -16,7 +16,8 @@ use octets::{front, number_at};
 use set_scratch::Region;
 use set_search::{Name, RType};
 
-/// Whether the set of a slot has the name and the type.
+/// Whether the set of a slot has the name and the type. Who asks knows mostly that the tags are the
+/// same, or that the set is the next one to the name, so that its octets are looked at at once.
 pub(crate) fn is_of_at(
     region: &Region,
     slots: &Vec<Slot>,
@@ -30,7 +31,7 @@ pub(crate) fn is_of_at(
         → HoldsAt region.now.held slots.now.items slot octets → Spells octets set
         → IsTrue result ↔ IsOf name.now rtype set }
 {
-    let Some(number) = type_under(region, slots, slot, name) else {
+    let Some(number) = type_read(region, slots, slot, name) else {
         return false;
     };
     if number != rtype.number() {
@@ -47,10 +48,21 @@ pub(crate) fn type_under(region: &Region, slots: &Vec<Slot>, slot: u32, name: &N
         → HoldsAt region.now.held slots.now.items slot octets → Spells octets set
         → TypeOrNone name.now set result }
 {
-    let octets = name.octets();
-    if tag_at(slots, slot) != name_tag(octets) {
+    if tag_at(slots, slot) != name_tag(name.octets()) {
         return None;
     }
+    type_read(region, slots, slot, name)
+}
+
+/// The same without a look at the tag.
+fn type_read(region: &Region, slots: &Vec<Slot>, slot: u32, name: &Name) -> Option<u16>
+    requires { (octets : List ℕ) × HoldsAt region.now.held slots.now.items slot octets
+        × IsSpelling octets }
+    ensures { (octets : List ℕ) (set : RecordSet)
+        → HoldsAt region.now.held slots.now.items slot octets → Spells octets set
+        → TypeOrNone name.now set result }
+{
+    let octets = name.octets();
     let first = front_at(region, slots, slot);
     if octets.len() + 2 <= first.len() {
         return type_in_front(first, octets);

@@ -92,6 +92,7 @@ impl<'a> SetList for ZoneSets<'a> {
         self.store.is_of(slot_at(self.order, place), name, rtype)
     }
 
+    #[inline(always)]
     fn type_at(&self, place: usize, name: &Name) -> Option<u16> {
         self.store
             .type_near(slot_at(self.order, place), name, self.cell)
@@ -100,6 +101,10 @@ impl<'a> SetList for ZoneSets<'a> {
     fn are_told_apart(&self, place: usize, other: usize) -> bool {
         self.store
             .are_told_apart(slot_at(self.order, place), slot_at(self.order, other))
+    }
+
+    fn past_name(&self, place: usize) -> usize {
+        self.store.past_name(self.order, place)
     }
 }
 
