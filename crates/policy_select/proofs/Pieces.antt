@@ -122,6 +122,84 @@ pub one_region : (made : Option (List ℕ)) (text region : List ℕ) → SomeIff
 one_region None text region h e = tt
 one_region (Some r) text region h e = h.1 ∙ e
 
+-- ---- the kind of a policy, by its first octet
+
+simple_there : (routing : Routing) (rest : List ℕ) (size : ℕ)
+    → take 2 (routing_octets routing ++ rest) ≡ 0 ∷ size ∷ []
+    → routing ≡ policy.Simple
+simple_there policy.Simple rest size e = refl
+simple_there (policy.Weighted ident weight) rest size e = absurd (grind (arith, e))
+simple_there (policy.Failover ident role) rest size e = absurd (grind (arith, e))
+simple_there (policy.Geolocation ident place) rest size e = absurd (grind (arith, e))
+simple_there (policy.Latency ident region) rest size e = absurd (grind (arith, e))
+simple_there (policy.Multivalue ident) rest size e = absurd (grind (arith, e))
+simple_there (policy.Cidr ident collection location) rest size e = absurd (grind (arith, e))
+
+latency_there : (routing : Routing) (rest : List ℕ) (size : ℕ)
+    → take 2 (routing_octets routing ++ rest) ≡ 4 ∷ size ∷ []
+    → (ident region : List ℕ) × (routing ≡ policy.Latency ident region)
+latency_there policy.Simple rest size e = absurd (grind (arith, e))
+latency_there (policy.Weighted ident weight) rest size e = absurd (grind (arith, e))
+latency_there (policy.Failover ident role) rest size e = absurd (grind (arith, e))
+latency_there (policy.Geolocation ident place) rest size e = absurd (grind (arith, e))
+latency_there (policy.Latency ident region) rest size e = (ident, region, refl)
+latency_there (policy.Multivalue ident) rest size e = absurd (grind (arith, e))
+latency_there (policy.Cidr ident collection location) rest size e = absurd (grind (arith, e))
+
+several_there : (routing : Routing) (rest : List ℕ) (size : ℕ)
+    → take 2 (routing_octets routing ++ rest) ≡ 5 ∷ size ∷ []
+    → (ident : List ℕ) × (routing ≡ policy.Multivalue ident)
+several_there policy.Simple rest size e = absurd (grind (arith, e))
+several_there (policy.Weighted ident weight) rest size e = absurd (grind (arith, e))
+several_there (policy.Failover ident role) rest size e = absurd (grind (arith, e))
+several_there (policy.Geolocation ident place) rest size e = absurd (grind (arith, e))
+several_there (policy.Latency ident region) rest size e = absurd (grind (arith, e))
+several_there (policy.Multivalue ident) rest size e = (ident, refl)
+several_there (policy.Cidr ident collection location) rest size e = absurd (grind (arith, e))
+
+blocks_there : (routing : Routing) (rest : List ℕ) (size : ℕ)
+    → take 2 (routing_octets routing ++ rest) ≡ 6 ∷ size ∷ []
+    → (ident location : List ℕ) × (collection : ℕ) × (routing ≡ policy.Cidr ident collection location)
+blocks_there policy.Simple rest size e = absurd (grind (arith, e))
+blocks_there (policy.Weighted ident weight) rest size e = absurd (grind (arith, e))
+blocks_there (policy.Failover ident role) rest size e = absurd (grind (arith, e))
+blocks_there (policy.Geolocation ident place) rest size e = absurd (grind (arith, e))
+blocks_there (policy.Latency ident region) rest size e = absurd (grind (arith, e))
+blocks_there (policy.Multivalue ident) rest size e = absurd (grind (arith, e))
+blocks_there (policy.Cidr ident collection location) rest size e = (ident, location, collection, refl)
+
+-- ---- and by what it says
+
+pub weighted_is : (routing : Routing) (x : ℕ) → weight_of routing ≡ Some x
+    → (ident : List ℕ) × (routing ≡ policy.Weighted ident x)
+weighted_is policy.Simple x e = absurd cc
+weighted_is (policy.Weighted ident weight) x e = (ident, (let same : weight ≡ x = cc in ap (policy.Weighted ident) same))
+weighted_is (policy.Failover ident role) x e = absurd cc
+weighted_is (policy.Geolocation ident place) x e = absurd cc
+weighted_is (policy.Latency ident region) x e = absurd cc
+weighted_is (policy.Multivalue ident) x e = absurd cc
+weighted_is (policy.Cidr ident collection location) x e = absurd cc
+
+pub failover_is : (routing : Routing) (x : Role) → role_of routing ≡ Some x
+    → (ident : List ℕ) × (routing ≡ policy.Failover ident x)
+failover_is policy.Simple x e = absurd cc
+failover_is (policy.Weighted ident weight) x e = absurd cc
+failover_is (policy.Failover ident role) x e = (ident, (let same : role ≡ x = cc in ap (policy.Failover ident) same))
+failover_is (policy.Geolocation ident place) x e = absurd cc
+failover_is (policy.Latency ident region) x e = absurd cc
+failover_is (policy.Multivalue ident) x e = absurd cc
+failover_is (policy.Cidr ident collection location) x e = absurd cc
+
+pub place_is : (routing : Routing) (x : Place) → place_of routing ≡ Some x
+    → (ident : List ℕ) × (routing ≡ policy.Geolocation ident x)
+place_is policy.Simple x e = absurd cc
+place_is (policy.Weighted ident weight) x e = absurd cc
+place_is (policy.Failover ident role) x e = absurd cc
+place_is (policy.Geolocation ident place) x e = (ident, (let same : place ≡ x = cc in ap (policy.Geolocation ident) same))
+place_is (policy.Latency ident region) x e = absurd cc
+place_is (policy.Multivalue ident) x e = absurd cc
+place_is (policy.Cidr ident collection location) x e = absurd cc
+
 -- ---- what a set says, by the front of its policy and by what stands behind the identifier
 
 -- the octets from the place of the policy on
@@ -209,3 +287,18 @@ module _ (front next piece : List ℕ) (set : RecordSet) (size : ℕ)
   region_by tells =
       let r = region_there set.routing is.rest is.rest size is.is (told 4 tells) in
       (r.0, part.0, r.1, r.2, part.1 ∙ ap (take part.0) r.3)
+
+  pub simple_by : TellsIdent front 0 size → set.routing ≡ policy.Simple
+  simple_by tells = simple_there set.routing is.rest size (told 0 tells)
+
+  pub latency_by : TellsIdent front 4 size
+      → (ident region : List ℕ) × (set.routing ≡ policy.Latency ident region)
+  latency_by tells = latency_there set.routing is.rest size (told 4 tells)
+
+  pub several_by : TellsIdent front 5 size → (ident : List ℕ) × (set.routing ≡ policy.Multivalue ident)
+  several_by tells = several_there set.routing is.rest size (told 5 tells)
+
+  pub blocks_by : TellsIdent front 6 size
+      → (ident location : List ℕ) × (collection : ℕ)
+      × (set.routing ≡ policy.Cidr ident collection location)
+  blocks_by tells = blocks_there set.routing is.rest size (told 6 tells)

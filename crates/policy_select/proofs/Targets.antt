@@ -231,3 +231,9 @@ leads zones zone g chosen held (Some found) holds target =
       in_zone = is.in_zone;
       sets = is.sets;
     }
+
+-- sets that are some have a first one
+pub first_there : (sets : List RecordSet) → 0 < length sets
+    → (set : RecordSet) × (slice_get sets 0 ≡ Some set)
+first_there [] some = absurd (omega (arith, some))
+first_there (set ∷ sets) some = (set, refl)

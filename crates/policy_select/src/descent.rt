@@ -1,7 +1,7 @@
 //! From a group to the sets that answer, through aliases.
 
 ghost use Rattle.std.specs.Prelude.{◌≡◌, ◌<◌, ◌≤◌, ◌+◌, ℕ, Bool, IfSome, IsTrue, Some, length};
-ghost use Rattle.std.specs.Prelude.{slice_get};
+ghost use Rattle.std.specs.Prelude.{get_or, slice_get};
 ghost use Rattle.std.specs.Option.{option_map};
 ghost use Rattle.answer_model.specs.Clients.{Client, client_with};
 ghost use Rattle.answer_model.specs.Descent.{descend as descended, descends, group_uses, word_of};
@@ -9,12 +9,15 @@ ghost use Rattle.answer_model.specs.declared.used.Used.{Used};
 ghost use Rattle.zone_table.specs.Reasons.{IsAlias};
 ghost use Rattle.zone_table.specs.RecordSetRecord.{RecordSet};
 ghost use Rattle.routing.specs.declared.policies.Routing.TheVariants as policy;
+ghost use Rattle.dns_name.specs.Labels.{wire};
 ghost use Rattle.zone_table.specs.Octets.{HasSpelling};
 ghost use Rattle.zone_table.specs.Bodies.{alias_of};
 ghost use Rattle.zone_table.specs.Holding.{IsHolding};
 ghost use Rattle.zone_table.specs.SetRefRecord.{SetRef};
+ghost use Rattle.zone_table.specs.Sets.{IsAmong};
 ghost use Rattle.zone_table.specs.Looking.{IsGroupNow};
 ghost use Rattle.policy_select.specs.Groups.{FewInGroups, sets_in, sets_in_zone};
+ghost use Rattle.policy_select.specs.Members.{PoliciesAreAt};
 ghost use Rattle.policy_select.specs.Seen.{IsSeen};
 ghost use Rattle.policy_select.specs.Selecting.{AreOfGroup, EndsWithFirst, GivesDescent};
 ghost use Rattle.policy_select.specs.Selecting.{HoldsFirst};
@@ -24,16 +27,21 @@ ghost use Rattle.policy_select.specs.Selecting.{LeadsTo, TargetOf, choice_of};
 use crate::client::Seen;
 use crate::group::{load_member, policy_place};
 use crate::parts::is_simple_in;
-use crate::rules::rule_held;
+use crate::rules::rule_of;
 use crate::selection::{Selected, choose, one};
 use crate::view::HealthView;
 use address_text::IpAddress;
 use answer_model::{Tables, Used, chosen_are_of_group};
 use dns_name::Name;
+use multivalue::Picked;
 use zone_table::{Group, Scratch, Zones};
 
 /// The most choices from group to group.
 const MOST: u8 = 17;
+
+/// Of a group of so many sets, as one of failover is, the first one is loaded before the choice, since
+/// mostly it is chosen.
+const FEW: usize = 2;
 
 /// Chooses from a group, and where an alias is chosen from its target's group, and so on, 17 times
 /// at most.
@@ -131,22 +139,68 @@ pub fn descend_held<V: HealthView>(
     ensures most { choices.new ≤ choices.old + 17 }
     ensures seen { IsSeen tables.now client seen.new }
 {
+    let at = policy_place(scratch);
     descend_on(
-        MOST, zones, group, view, tables, client, words, choices, used, seen, scratch,
+        MOST, zones, group, at, true, view, tables, client, words, choices, used, seen, scratch,
     )
 }
 
-/// Loads the first set of a group, and tells whether it answers alone: it is simple and has values.
-/// Then it is chosen by whatever word, and nothing is chosen behind it.
+/// The same from a group of sets of this name. Where they are few, the first one is held.
+///
+/// Of more sets mostly another one than the first is chosen, which then is the only one that is loaded:
+/// the name tells where their policies stand, and so the first set tells its own where it is.
+pub fn descend_named<V: HealthView>(
+    zones: &Zones,
+    group: Group,
+    name: &Name,
+    view: &V,
+    tables: &Tables,
+    client: IpAddress,
+    words: &[u64; 8],
+    choices: &mut u8,
+    used: &mut Used,
+    seen: &mut Seen,
+    scratch: &mut Scratch,
+) -> Selected
+    requires group { IsGroupNow zones.now.zones group }
+    requires some { 0 < group.length }
+    requires named { (set : RecordSet) → IsAmong (sets_in zones.now.zones group) set
+        → set.name ≡ name.now }
+    requires few { FewInGroups (sets_in_zone zones.now.zones group.zone) }
+    requires room { choices.old ≤ 238 }
+    requires held { group.length ≤ 2 → scratch.old ≡ slice_get (sets_in zones.now.zones group) 0 }
+    requires seen { IsSeen tables.now client seen.old }
+    ensures gives { GivesDescent zones.now.zones (V.test view.now)
+        (client_with tables.now zones.now.collections.list client) words.now group descended
+        (record { count = choices.old; used = used.old }) result choices.new used.new }
+    ensures places { AreOfGroup zones.now.zones result }
+    ensures held { HoldsFirst zones.now.zones result scratch.new }
+    ensures most { choices.new ≤ choices.old + 17 }
+    ensures seen { IsSeen tables.now client seen.new }
+{
+    let at = place_behind(name);
+    let held = are_few(group);
+    descend_on(
+        MOST, zones, group, at, held, view, tables, client, words, choices, used, seen, scratch,
+    )
+}
+
+/// Whether the first set of a group is told to answer alone: it is simple and has values. Then it is
+/// chosen by whatever word, and nothing is chosen behind it. Of a group of few sets it is held then, and
+/// nothing is told of larger ones, as no group of a simple set is.
 #[inline(always)]
 pub fn first_answers(zones: &Zones, group: Group, scratch: &mut Scratch) -> bool
     requires group { IsGroupNow zones.now.zones group }
     requires some { 0 < group.length }
-    ensures first { (set : RecordSet)
+    ensures held { group.length ≤ 2 → scratch.new ≡ slice_get (sets_in zones.now.zones group) 0 }
+    ensures first { IsTrue result → (set : RecordSet)
         × (slice_get (sets_in zones.now.zones group) 0 ≡ Some set)
         × (scratch.new ≡ Some set) × HasSpelling set }
     ensures alone { IsTrue result → EndsWithFirst zones.now.zones group }
 {
+    if group.length > FEW {
+        return false;
+    }
     load_member(zones, group, 0, scratch);
     answers_alone(scratch)
 }
@@ -189,12 +243,13 @@ fn descend_from<V: HealthView>(
         *choices += 1;
         return choose_simple(zones, group, scratch);
     }
+    let at = policy_place(scratch);
     descend_on(
-        most, zones, group, view, tables, client, words, choices, used, seen, scratch,
+        most, zones, group, at, true, view, tables, client, words, choices, used, seen, scratch,
     )
 }
 
-/// The same from a group whose first set is held.
+/// The same from a group whose policies stand at this place; it is told whether the first set is held.
 // Apart, so that a group whose first set answers alone passes by what it doesn't need.
 #[cycle(descend_from)]
 #[inline(never)]
@@ -202,6 +257,8 @@ fn descend_on<V: HealthView>(
     most: u8,
     zones: &Zones,
     group: Group,
+    at: usize,
+    held: bool,
     view: &V,
     tables: &Tables,
     client: IpAddress,
@@ -216,9 +273,8 @@ fn descend_on<V: HealthView>(
     requires some { 0 < group.length }
     requires few { FewInGroups (sets_in_zone zones.now.zones group.zone) }
     requires room { choices.old + most ≤ 255 }
-    requires first { (set : RecordSet)
-        × (slice_get (sets_in zones.now.zones group) 0 ≡ Some set)
-        × (scratch.old ≡ Some set) × HasSpelling set }
+    requires at { PoliciesAreAt (sets_in zones.now.zones group) at }
+    requires held { IsTrue held → scratch.old ≡ slice_get (sets_in zones.now.zones group) 0 }
     requires seen { IsSeen tables.now client seen.old }
     ensures gives { GivesDescent zones.now.zones (V.test view.now)
         (client_with tables.now zones.now.collections.list client) words.now group (descends most)
@@ -229,7 +285,7 @@ fn descend_on<V: HealthView>(
     ensures seen { IsSeen tables.now client seen.new }
 {
     let selected = choose_next(
-        zones, group, view, tables, client, words, choices, used, seen, scratch,
+        zones, group, at, held, view, tables, client, words, choices, used, seen, scratch,
     );
     match lead(zones, group.zone, &selected, scratch) {
         None => selected,
@@ -249,12 +305,14 @@ fn descend_on<V: HealthView>(
     }
 }
 
-/// Makes one choice more from a group whose first set is held. The scratch holds the first selected
-/// set then.
+/// Makes one choice more from a group whose policies stand at this place. The scratch holds the first
+/// selected set then.
 #[inline(always)]
 fn choose_next<V: HealthView>(
     zones: &Zones,
     group: Group,
+    at: usize,
+    held: bool,
     view: &V,
     tables: &Tables,
     client: IpAddress,
@@ -268,9 +326,8 @@ fn choose_next<V: HealthView>(
     requires some { 0 < group.length }
     requires few { FewInGroups (sets_in_zone zones.now.zones group.zone) }
     requires room { choices.old < 255 }
-    requires first { (set : RecordSet)
-        × (slice_get (sets_in zones.now.zones group) 0 ≡ Some set)
-        × (scratch.old ≡ Some set) × HasSpelling set }
+    requires at { PoliciesAreAt (sets_in zones.now.zones group) at }
+    requires held { IsTrue held → scratch.old ≡ slice_get (sets_in zones.now.zones group) 0 }
     requires seen { IsSeen tables.now client seen.old }
     ensures selected { result
         ≡ choice_of zones.now.zones (V.test view.now)
@@ -290,8 +347,8 @@ fn choose_next<V: HealthView>(
     chosen_are_of_group();
     let word = words[usize::from(*choices % 8)];
     *choices += 1;
-    choose_held(
-        zones, group, view, tables, client, word, used, seen, scratch,
+    choose_at(
+        zones, group, at, held, view, tables, client, word, used, seen, scratch,
     )
 }
 
@@ -325,12 +382,14 @@ fn choose_simple(zones: &Zones, group: Group, scratch: &Scratch) -> Selected
     one(group, 0)
 }
 
-/// Chooses by the policy of the first set of a group, which is held. The scratch holds the first
-/// selected set then.
+/// Chooses by the policy of the first set of a group, which is read where it stands. The scratch holds
+/// the first selected set then.
 #[inline(always)]
-fn choose_held<V: HealthView>(
+fn choose_at<V: HealthView>(
     zones: &Zones,
     group: Group,
+    at: usize,
+    held: bool,
     view: &V,
     tables: &Tables,
     client: IpAddress,
@@ -342,9 +401,8 @@ fn choose_held<V: HealthView>(
     requires group { IsGroupNow zones.now.zones group }
     requires some { 0 < group.length }
     requires few { group.length ≤ 100 }
-    requires first { (set : RecordSet)
-        × (slice_get (sets_in zones.now.zones group) 0 ≡ Some set)
-        × (scratch.old ≡ Some set) × HasSpelling set }
+    requires at { PoliciesAreAt (sets_in zones.now.zones group) at }
+    requires held { IsTrue held → scratch.old ≡ slice_get (sets_in zones.now.zones group) 0 }
     requires seen { IsSeen tables.now client seen.old }
     ensures selected { result
         ≡ choice_of zones.now.zones (V.test view.now)
@@ -357,28 +415,49 @@ fn choose_held<V: HealthView>(
     ensures seen { IsSeen tables.now client seen.new }
 {
     chosen_are_of_group();
-    let rule = rule_held(scratch);
-    let at = policy_place(scratch);
+    let rule = rule_of(zones, group, at, held, scratch);
     let selected = choose(
-        &rule, zones, group, view, tables, client, word, at, used, seen, scratch,
+        &rule, zones, group, view, tables, client, word, at, held, used, seen, scratch,
     );
-    load_first(zones, &selected, scratch);
+    load_first(zones, &selected, held, scratch);
     selected
 }
 
-/// Loads the first selected set. The first one of its group is held before.
-fn load_first(zones: &Zones, selected: &Selected, scratch: &mut Scratch)
+/// Loads the first selected set. It is told whether the first one of its group is held before.
+fn load_first(zones: &Zones, selected: &Selected, held: bool, scratch: &mut Scratch)
     requires there { AreOfGroup zones.now.zones selected.now }
-    requires front { HoldsFront zones.now.zones selected.now scratch.old }
+    requires front { IsTrue held → HoldsFront zones.now.zones selected.now scratch.old }
     ensures { HoldsFirst zones.now.zones selected.now scratch.new }
 {
     let Selected::Sets(group, picked) = selected else {
         return;
     };
-    if picked.places[0] == 0 {
+    if is_front_held(held, picked) {
         return;
     }
     load_member(zones, *group, picked.places[0], scratch);
+}
+
+/// Whether the first of these places is the front of a group, and the set there is held, which is told.
+fn is_front_held(held: bool, picked: &Picked) -> bool
+    ensures held { IsTrue result → IsTrue held }
+    ensures front { IsTrue result → get_or picked.now.places 0 0 ≡ 0 }
+{
+    held && picked.places[0] == 0
+}
+
+/// Whether a group has few sets, so that the first one is held before a choice.
+fn are_few(group: Group) -> bool
+    ensures { IsTrue result → group.length ≤ 2 }
+{
+    group.length <= FEW
+}
+
+/// The place at which the policies of sets of this name stand: two octets behind it.
+fn place_behind(name: &Name) -> usize
+    ensures { result ≡ length (wire name.now) + 2 }
+{
+    name.octets().len() + 2
 }
 
 /// A group of a zone whose groups are few has few sets; it does nothing.

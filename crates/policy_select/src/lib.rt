@@ -23,7 +23,7 @@ pub use answer_model::{
     zones_are_longest,
 };
 pub use client::Seen;
-pub use descent::{descend, descend_held, descend_seen, first_answers};
+pub use descent::{descend, descend_held, descend_named, descend_seen, first_answers};
 pub use few::{few_by_each_set, groups_are_few};
 pub use group::{find_group, load_member, routing_at};
 pub use multivalue::Picked;

@@ -1,6 +1,6 @@
 //! The choice from one group, by the policy of its first set.
 
-ghost use Rattle.std.specs.Prelude.{◌≡◌, ◌<◌, ◌≤◌, ◌∷◌, [], ℕ, List, Some};
+ghost use Rattle.std.specs.Prelude.{◌≡◌, ◌<◌, ◌≤◌, ◌∷◌, [], ℕ, IsTrue, List, Some};
 ghost use Rattle.std.specs.Prelude.{option_to_list, slice_get};
 ghost use Rattle.answer_model.specs.Clients.{client_with};
 ghost use Rattle.answer_model.specs.Descent.{group_uses};
@@ -18,7 +18,7 @@ use crate::group::{load_member, policy_place};
 use crate::leaves::{
     choose_block, choose_failover, choose_place, choose_region, choose_several, choose_weighted,
 };
-use crate::rules::{Rule, block_held, region_held, rule_held};
+use crate::rules::{Rule, block_held, region_of_first, rule_held};
 use crate::view::HealthView;
 use address_text::IpAddress;
 use answer_model::{Tables, Used};
@@ -66,12 +66,12 @@ pub fn select<V: HealthView>(
     let rule = rule_held(scratch);
     let at = policy_place(scratch);
     choose(
-        &rule, zones, group, view, tables, client, word, at, &mut used, &mut seen, scratch,
+        &rule, zones, group, view, tables, client, word, at, true, &mut used, &mut seen, scratch,
     )
 }
 
 /// Chooses from a group by the policy of its first set, and notes what the choice used, and what it
-/// saw in the tables. The scratch holds the first set, before and after.
+/// saw in the tables. Where the scratch holds the first set before, which is told, it does so after.
 #[inline(always)]
 pub(crate) fn choose<V: HealthView>(
     rule: &Rule,
@@ -82,6 +82,7 @@ pub(crate) fn choose<V: HealthView>(
     client: IpAddress,
     word: u64,
     at: usize,
+    held: bool,
     used: &mut Used,
     seen: &mut Seen,
     scratch: &mut Scratch,
@@ -94,7 +95,7 @@ pub(crate) fn choose<V: HealthView>(
     requires first { (set : RecordSet)
         × (slice_get (sets_in zones.now.zones group) 0 ≡ Some set)
         × IsOf rule.now set.routing }
-    requires held { scratch.old ≡ slice_get (sets_in zones.now.zones group) 0 }
+    requires held { IsTrue held → scratch.old ≡ slice_get (sets_in zones.now.zones group) 0 }
     ensures selected { result
         ≡ choice_of zones.now.zones (V.test view.now)
         (client_with tables.now zones.now.collections.list client) group word }
@@ -102,7 +103,7 @@ pub(crate) fn choose<V: HealthView>(
         ≡ group_uses (client_with tables.now zones.now.collections.list client)
         (sets_in zones.now.zones group) used.old }
     ensures seen { IsSeen tables.now client seen.new }
-    ensures held { scratch.new ≡ scratch.old }
+    ensures held { IsTrue held → scratch.new ≡ slice_get (sets_in zones.now.zones group) 0 }
 {
     match rule {
         Rule::Simple => one(group, 0),
@@ -121,13 +122,14 @@ pub(crate) fn choose<V: HealthView>(
         }
         Rule::Latency => {
             used.latencies = true;
-            let region = region_held(scratch);
+            let region = region_of_first(zones, group, at);
             let (set, scope) = choose_region(zones, group, view, &region, tables, client, at);
             seen.latencies = Some(scope);
             one(group, set)
         }
         Rule::Multivalue => several(group, choose_several(zones, group, view, word)),
         Rule::Cidr => {
+            hold_first(zones, group, held, scratch);
             let (id, location) = block_held(scratch);
             let (block, scope) = block_of(zones.collections(), id, client);
             used.blocks = used.blocks.max(scope);
@@ -136,6 +138,19 @@ pub(crate) fn choose<V: HealthView>(
             one_or_none(group, set)
         }
     }
+}
+
+/// Holds the first set of a group, where it isn't held yet, which is told.
+fn hold_first(zones: &Zones, group: Group, held: bool, scratch: &mut Scratch)
+    requires group { IsGroupNow zones.now.zones group }
+    requires some { 0 < group.length }
+    requires held { IsTrue held → scratch.old ≡ slice_get (sets_in zones.now.zones group) 0 }
+    ensures { scratch.new ≡ slice_get (sets_in zones.now.zones group) 0 }
+{
+    if held {
+        return;
+    }
+    load_member(zones, group, 0, scratch);
 }
 
 /// One set of a group.

@@ -36,7 +36,7 @@ use dns_wire::{Reply, Section, records_add_up};
 use geo_latency::Tables;
 use rdata_layout::{RType, types_have_their_own_number};
 use reply_records::{
-    HealthView, Selected, descend_held, descend_seen, find_group, first_answers, first_record,
+    HealthView, Selected, descend_named, descend_seen, find_group, first_answers, first_record,
     name_in, views_agree, write_chosen, write_first, write_one,
 };
 use zone_lookup::{
@@ -44,7 +44,8 @@ use zone_lookup::{
     has_set_at, is_held_by, known_few, names_exist, standing_of,
 };
 
-/// The records of a group of the asked type answer a name. Where nothing is chosen it is no data.
+/// The records of a group of the asked type, whose sets have the name that is taken for a name, answer
+/// it. Where nothing is chosen it is no data.
 #[inline(always)]
 fn answer_group<V: HealthView>(
     zones: &Zones,
@@ -52,6 +53,7 @@ fn answer_group<V: HealthView>(
     tables: &Tables,
     asked: &Asked,
     name: &Name,
+    from: &Name,
     group: Group,
     progress: &mut Progress,
     reply: &mut Reply,
@@ -60,6 +62,8 @@ fn answer_group<V: HealthView>(
     requires group { IsGroupNow zones.now.zones group }
     requires some { 0 < group.length }
     requires zone { group.zone ≡ asked.now.zone }
+    requires named { (set : RecordSet) → IsAmong (sets_in zones.now.zones group) set
+        → set.name ≡ from.now }
     requires few { FewInGroups (sets_in_zone zones.now.zones group.zone) }
     requires room { progress.old.count ≤ 238 }
     requires seen { IsSeen tables.now asked.now.client progress.old.seen }
@@ -81,9 +85,10 @@ fn answer_group<V: HealthView>(
         progress.count += 1;
         return answer_first(name, reply, scratch);
     }
-    let selected = descend_held(
+    let selected = descend_named(
         zones,
         group,
+        from,
         view,
         tables,
         asked.client,
@@ -259,7 +264,7 @@ fn step_from<V: HealthView>(
     match asked_group(zones, asked.zone, from, asked.qtype) {
         Some(group) => {
             let end = answer_group(
-                zones, view, tables, asked, name, group, progress, reply, scratch,
+                zones, view, tables, asked, name, from, group, progress, reply, scratch,
             );
             Next::Ends(end)
         }
@@ -437,7 +442,7 @@ fn step_typed<V: HealthView>(
         Some(cut) => Next::Ends(answer_referral(zones, cut, reply, scratch)),
         None => {
             let end = answer_group(
-                zones, view, tables, asked, name, group, progress, reply, scratch,
+                zones, view, tables, asked, name, name, group, progress, reply, scratch,
             );
             Next::Ends(end)
         }

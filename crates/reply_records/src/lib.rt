@@ -16,6 +16,6 @@ pub use delegation::{name_in, write_delegation};
 pub use held::{write_one, write_values};
 pub use negative::write_soa;
 pub use policy_select::{
-    HealthView, Selected, descend, descend_held, descend_seen, find_group, first_answers,
-    views_agree,
+    HealthView, Selected, descend, descend_held, descend_named, descend_seen, find_group,
+    first_answers, views_agree,
 };

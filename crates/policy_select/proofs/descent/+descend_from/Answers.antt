@@ -8,6 +8,7 @@ use Rattle.zone_table.specs.RecordSetRecord.{RecordSet}
 use Rattle.policy_select.specs.Groups.{sets_in, sets_in_zone}
 use Rattle.policy_select.specs.Selecting.{Gives, means_of}
 use Rattle.policy_select.proofs.Descending.{ends_here, goes_on}
+use Rattle.policy_select.proofs.Policies.{by_held}
 use Rattle.policy_select.proofs.descent.+descend_from.Goals as goal
 
 pub descend_from-choose_simple-requires-clause-first : goal.descend_from-choose_simple-requires-clause-first
@@ -40,13 +41,10 @@ descend_from-descend_on-requires g t c = λ κs lives.
                 (
                   c.requires.room,
                   (
-                    (
-                      loaded.some.0,
-                      sym loaded.loaded ∙ loaded.some.1,
-                      loaded.some.1,
-                      loaded.some.2,
-                    ),
-                    c.requires.seen,
+                    by_held c.args.zones.now.zones c.args.group c.requires.group
+                        c.load_member.new.scratch loaded.some.0 c.policy_place-at.result
+                        (sym loaded.loaded ∙ loaded.some.1) loaded.some.1 c.policy_place-at.ensures,
+                    ((λ h. loaded.loaded), c.requires.seen),
                   ),
                 ),
               ),

@@ -10,10 +10,13 @@ use Rattle.policy_select.proofs.Choosing.{simple_is, simple_last, simple_uses, s
 use Rattle.policy_select.proofs.Descending.{ends_here}
 use Rattle.policy_select.proofs.descent.first_answers.Goals as goal
 
+pub returns-clause-held : goal.returns-clause-held
+returns-clause-held c = λ few. c.load_member.ensures.loaded
+
 pub returns-clause-first : goal.returns-clause-first
-returns-clause-first c =
-    let loaded = c.load_member.ensures in
-    (loaded.some.0, sym loaded.loaded ∙ loaded.some.1, loaded.some.1, loaded.some.2)
+returns-clause-first c = λ alone.
+    (let loaded = c.load_member.ensures in
+    (loaded.some.0, sym loaded.loaded ∙ loaded.some.1, loaded.some.1, loaded.some.2))
 
 pub returns-clause-alone : goal.returns-clause-alone
 unfolding descend

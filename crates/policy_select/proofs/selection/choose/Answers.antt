@@ -1,7 +1,6 @@
-use Rattle.std.proofs.Common.{Option, subst, sym, ◌∙◌}
-use Rattle.std.specs.Prelude.{IfSome}
+use Rattle.std.proofs.Common.{◌≡◌, subst, sym, ◌∙◌}
+use Rattle.std.proofs.lemmas.Option.{same_Some}
 use Rattle.zone_table.specs.RecordSetRecord.{RecordSet}
-use Rattle.zone_table.specs.Holding.{IsHolding}
 use Rattle.policy_select.specs.Rules.{IsOf}
 use Rattle.policy_select.specs.declared.rules.Rule.{Rule}
 use Rattle.policy_select.specs.declared.rules.Rule.TheVariants as rules
@@ -20,14 +19,9 @@ returns-in-Weighted-clause-selected g c =
     c.one-in-Weighted.result first.1 first.2 c.in-Weighted.is c.choose_weighted.ensures
     c.one-in-Weighted.ensures
 
-pub region_held-region-requires-clause-held : goal.region_held-region-requires-clause-held
-region_held-region-requires-clause-held g c =
+pub region_of_first-region-requires-clause-latency : goal.region_of_first-region-requires-clause-latency
+region_of_first-region-requires-clause-latency g c set at =
     let first = c.requires.first in
-    subst IsHolding (sym (c.requires.held ∙ first.1)) tt
-
-pub region_held-region-requires-clause-latency : goal.region_held-region-requires-clause-latency
-region_held-region-requires-clause-latency g c =
-    let first = c.requires.first in
-    subst (λ (h : Option RecordSet). IfSome h (λ s. IsOf rules.Latency s.routing))
-    (sym (c.requires.held ∙ first.1))
+    let same : first.0 ≡ set = same_Some first.0 set (sym first.1 ∙ at) in
+    subst (λ (s : RecordSet). IsOf rules.Latency s.routing) same
     (subst (λ (r : Rule). IsOf r first.0.routing) c.in-Latency.is first.2)

@@ -1,16 +1,8 @@
-use Rattle.std.proofs.Common.{sym, ◌∙◌}
 use Rattle.answer_model.specs.Choice.{chosen}
 use Rattle.answer_model.specs.Clients.{client_with}
 use Rattle.policy_select.specs.Groups.{flags_in, sets_in}
 use Rattle.policy_select.proofs.Choosing.{holds_front, places_are}
-use Rattle.policy_select.proofs.Policies.{by_held}
-use Rattle.policy_select.proofs.descent.choose_held.Goals as goal
-
-pub choose-selected-requires-clause-at : goal.choose-selected-requires-clause-at
-choose-selected-requires-clause-at g c =
-    let first = c.requires.first in
-    by_held c.args.zones.now.zones c.args.group c.requires.group c.args.scratch.now first.0
-    c.policy_place-at.result first.1 first.2 c.policy_place-at.ensures
+use Rattle.policy_select.proofs.descent.choose_at.Goals as goal
 
 pub load_first-requires-clause-there : goal.load_first-requires-clause-there
 load_first-requires-clause-there g c =
@@ -20,15 +12,14 @@ load_first-requires-clause-there g c =
     c.choose-selected.result c.choose-selected.ensures.selected c.requires.group
 
 pub load_first-requires-clause-front : goal.load_first-requires-clause-front
-load_first-requires-clause-front g c =
-    let zones = c.args.zones.now.zones in
-    let first = c.requires.first in
+load_first-requires-clause-front g c = λ held.
+    (let zones = c.args.zones.now.zones in
     holds_front zones c.args.group
     (chosen (sets_in zones c.args.group)
     (flags_in zones (g.V.HealthView.test c.args.view.now) c.args.group)
     (client_with c.args.tables.now c.args.zones.now.collections.list c.args.client).rows c.args.word)
     c.choose-selected.result c.choose-selected.new.scratch c.choose-selected.ensures.selected
-    (c.choose-selected.ensures.held ∙ first.2 ∙ sym first.1)
+    (c.choose-selected.ensures.held held))
 
 pub returns-clause-places : goal.returns-clause-places
 returns-clause-places g c =
