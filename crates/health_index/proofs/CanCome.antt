@@ -1,9 +1,10 @@
--- What an index has where an evaluated alias came, and another one leads to its target group.
-use Rattle.std.proofs.Common.{◌≡◌, ◌≤◌, ◌<◌, ℕ, zero, suc, true, List, [], ◌∷◌, map, get_or, arith, refl, ap, sym, ◌∙◌, inl, inr, Option, None, Some}
+-- What an index has where an evaluated alias came, and another one leads to its target group; or none does, and nothing
+-- decides any set of that.
+use Rattle.std.proofs.Common.{◌≡◌, ◌≤◌, ◌<◌, ℕ, zero, suc, true, false, List, [], ◌∷◌, length, map, get_or, arith, refl, ap, sym, ◌∙◌, inl, inr, Option, None, Some}
 use Rattle.std.specs.List.{Contains}
 use Rattle.std.specs.Option.{option_to_list}
 use Rattle.std.specs.Prelude.{All, slice_get}
-use Rattle.std.proofs.lemmas.Bool.{cases_eq}
+use Rattle.std.proofs.lemmas.Bool.{cases_eq, false≢true}
 use Rattle.std.proofs.lemmas.List.Elements.{Contains-append_cases, Contains-get_or}
 use mathlib.Core.Path.{subst}
 use Rattle.check_model.specs.Checks.{Checks}
@@ -13,32 +14,39 @@ use Rattle.health_index.proofs.GroupLeft.{is_none, is_one}
 use Rattle.health_index.proofs.Keyed.{grouped, grouped_sets}
 use Rattle.health_index.proofs.Staying.{CameBy, WentBy, group_now, in_filter}
 use Rattle.health_index.specs.Index.{Index, StandsFor}
-use Rattle.health_index.specs.Laws.{AliasesCanCome}
+use Rattle.health_index.proofs.Regrouped.{watched_on}
+use Rattle.health_index.specs.Founding.{ComesFirst}
+use Rattle.health_index.specs.Laws.{AliasesCanCome, FirstCanCome}
 use Rattle.health_index.specs.Leading.{ComesToLead, HasItsCheck, feeders_with}
 use Rattle.health_index.specs.Leaving.{HasNoValve, Moves}
 use Rattle.health_index.specs.Regrouping.{HasCome}
 use Rattle.health_model.proofs.Members.{of_filter}
 use Rattle.health_model.specs.Sound.{IsSound}
 use Rattle.health_model.specs.Statuses.{Report}
-use Rattle.health_planning.proofs.Built.{checks_there}
-use Rattle.health_planning.proofs.Wiring.{passes_it, same_names}
+use Rattle.health_planning.proofs.Built.{checks_there, targets_there}
+use Rattle.health_planning.proofs.Members.{one_named}
+use Rattle.health_planning.proofs.MembersOfZoneList.{set_in}
+use Rattle.health_planning.proofs.Wiring.{of_group, passes_it, same_names}
 use Rattle.health_planning.specs.DeltaRecord.{Delta}
 use Rattle.health_planning.specs.Edits.{Edits, IsAllowed}
 use Rattle.health_planning.specs.Looking.{RefersTo}
 use Rattle.health_planning.specs.SetRefRecord.{SetRef}
 use Rattle.health_planning.specs.Tables.{HaveSlotsApart}
 use Rattle.health_planning.specs.Telling.{evaluates, target_in}
-use Rattle.health_planning.specs.Wired.{AreMembers, IsLedTo, group_seat, ids_of, own_part, set_seat, valve_with, watched_of}
+use Rattle.health_planning.specs.Wired.{AreMembers, IsLedTo, group_seat, ids_of, is_watched, own_part, set_seat, valve_with, watched_of}
 use Rattle.health_planning.specs.declared.seats.Seat.{Seat}
 use Rattle.health_planning.specs.ZoneEditRecord.{ZoneEdit}
 use Rattle.health_planning.specs.Zones.{AreZones, Zone, placed_in}
 use Rattle.health_valves.proofs.Members.{in_cases, in_none}
 use Rattle.health_valves.specs.Valves.{size_of}
 use Rattle.rdata_layout.specs.declared.types.RType.{RType}
+use Rattle.record_set.specs.Reasons.{IsAlias}
+use Rattle.record_set.specs.declared.sets.Body.{Body}
 use Rattle.record_set.specs.declared.sets.Body.TheVariants as body
 use Rattle.record_set.specs.declared.sets.RecordSet.{RecordSet}
-use Rattle.zone_model.specs.Slotted.{IsHere, Slotted}
-use Rattle.zone_model.specs.Zones.{is_of_group}
+use Rattle.zone_model.specs.Slotted.{IsHere, Slotted, sets_of}
+use Rattle.zone_model.specs.Walks.{HasNoTarget}
+use Rattle.zone_model.specs.Zones.{IsAmong, group, is_of_group, target_group_of}
 
 all_of : (P : ℕ → Type 0) (xs : List ℕ) → ((x : ℕ) → Contains xs x → P x) → All P xs
 all_of P xs each k d below = each (get_or xs k d) (Contains-get_or xs k d below)
@@ -64,36 +72,36 @@ module _ (before after : List Zone) (checks : Checks) (reports : List Report) (i
   none : group_seat seats ref.slot ≡ 0
   none = no_group before after checks reports index stands are_after slots_after delta ref come set names made allowed edits
 
-  own_group : AreMembers before ref.zone set.name set.rtype (grouped set.name set.rtype (placed_in before ref.zone))
-  own_group = record {
-    sets = grouped_sets set.name set.rtype (placed_in before ref.zone);
-    here = λ q m. of_filter (λ (x : Slotted). is_of_group set.name set.rtype x.set) (placed_in before ref.zone) q m;
-  }
-
-  -- no set of its group tells a valve for it
-  bare_before : (p : Slotted) → IsHere (placed_in before ref.zone) p → set.name ≡ p.set.name
-      → set.rtype ≡ p.set.rtype → group_seat seats p.slot ≡ 0
-  bare_before p here name_is rtype_is = by (group_seat seats p.slot) refl
+  -- no set of a group tells a valve for it to which none leads
+  bare_of : (name : List (List ℕ)) (rtype : RType) → (IsLedTo before ref.zone name rtype → ⊥) → (p : Slotted)
+      → IsHere (placed_in before ref.zone) p → name ≡ p.set.name → rtype ≡ p.set.rtype → group_seat seats p.slot ≡ 0
+  bare_of name rtype no_leader p here name_is rtype_is = by (group_seat seats p.slot) refl
     where
+      its_group : AreMembers before ref.zone name rtype (grouped name rtype (placed_in before ref.zone))
+      its_group = record {
+        sets = grouped_sets name rtype (placed_in before ref.zone);
+        here = λ q m. of_filter (λ (x : Slotted). is_of_group name rtype x.set) (placed_in before ref.zone) q m;
+      }
+
       by : (n : ℕ) → group_seat seats p.slot ≡ n → group_seat seats p.slot ≡ 0
       by zero e = e
       by (suc h) e =
           let x = stands.told.groups p.slot h e in
           let s = x.only p.slot e in
-          let m = in_filter (λ (q : Slotted). is_of_group set.name set.rtype q.set) (placed_in before ref.zone) p here
-          (passes_it set.name set.rtype p.set name_is rtype_is) in
-          let same = same_names before stands.are_zones stands.slots x.zone ref.zone x.name set.name x.rtype set.rtype x.members
-          (grouped set.name set.rtype (placed_in before ref.zone)) s.0 p x.are s.1 own_group m s.2 in
-          absurd (none_leads
-          (subst (λ (z : ℕ). IsLedTo before z set.name set.rtype) (sym same.0)
-          (subst (λ (n : List (List ℕ)). IsLedTo before x.zone n set.rtype) (sym same.1.0)
+          let m = in_filter (λ (q : Slotted). is_of_group name rtype q.set) (placed_in before ref.zone) p here
+          (passes_it name rtype p.set name_is rtype_is) in
+          let same = same_names before stands.are_zones stands.slots x.zone ref.zone x.name name x.rtype rtype x.members
+          (grouped name rtype (placed_in before ref.zone)) s.0 p x.are s.1 its_group m s.2 in
+          absurd (no_leader
+          (subst (λ (z : ℕ). IsLedTo before z name rtype) (sym same.0)
+          (subst (λ (n : List (List ℕ)). IsLedTo before x.zone n rtype) (sym same.1.0)
           (subst (λ (t : RType). IsLedTo before x.zone x.name t) (sym same.1.1) x.led))))
 
   alone : HasNoValve after seats ref.zone set.name set.rtype
   alone p here name_is rtype_is = elim (cases_eq p.slot ref.slot) [
     | inl e ↦ ap (group_seat seats) e ∙ none
     | inr apart ↦
-        bare_before p (was_here before after checks reports index stands are_after slots_after delta ref come set names made allowed edits ref.zone p here apart)
+        bare_of set.name set.rtype none_leads p (was_here before after checks reports index stands are_after slots_after delta ref come set names made allowed edits ref.zone p here apart)
         name_is rtype_is
   ]
 
@@ -171,6 +179,78 @@ module _ (before after : List Zone) (checks : Checks) (reports : List Report) (i
         },
       )
 
+  -- its target group has a set
+  some_in : (l : List Slotted) → (l ≡ [] → ⊥) → 1 ≤ length l
+  some_in [] none = absurd (none refl)
+  some_in (p ∷ l) none = omega arith
+
+  no_target : (its : List RecordSet) (name : List (List ℕ)) → set.body ≡ body.Alias name true
+      → group its name set.rtype ≡ [] → HasNoTarget its set
+  no_target its name is none =
+      subst (λ (b : Body). IsAlias b × (target_group_of its set.rtype b ≡ [])) (sym is) (tt, none)
+
+  pub comes_first : (name : List (List ℕ)) → set.body ≡ body.Alias name true
+      → (IsLedTo before ref.zone name set.rtype → ⊥)
+      → ((p : Slotted) → IsHere (placed_in after ref.zone) p → name ≡ p.set.name → set.rtype ≡ p.set.rtype
+      → is_watched p.set ≡ false)
+      → (members : List Slotted) × ((feeders : List ℕ)
+      × ComesFirst after index.ids index.numbers seats index.valves ref members feeders)
+  comes_first name is no_leader off =
+      let members = grouped name set.rtype (placed_in after ref.zone) in
+      let on = ap evaluates is in
+      let are : AreMembers after ref.zone name set.rtype members = record {
+        sets = grouped_sets name set.rtype (placed_in after ref.zone);
+        here = λ q m. of_filter (λ (x : Slotted). is_of_group name set.rtype x.set) (placed_in after ref.zone) q m;
+      } in
+      let of : (p : Slotted) → IsHere members p → (name ≡ p.set.name) × (set.rtype ≡ p.set.rtype) =
+      λ p m. of_group (sets_of (placed_in after ref.zone)) name set.rtype p.set
+      (subst (λ (l : List RecordSet). IsAmong l p.set) are.sets (set_in members p m)) in
+      let apart : (p : Slotted) → IsHere members p → p.slot ≡ ref.slot → ⊥ =
+      λ p m e.
+      let same = one_named after ref p.set set are_after
+      (subst (λ (n : ℕ). IsHere (placed_in after ref.zone) (record { slot = n; set = p.set })) e (are.here p m)) names in
+      false≢true (sym (off p (are.here p m) (of p m).0 (of p m).1) ∙ ap is_watched same ∙ watched_on set on) in (
+        members,
+        (
+          map (valve_with index.ids index.numbers) (option_to_list set.check),
+          record {
+            set = set;
+            names = names;
+            on = on;
+            bare = bare;
+            none = none;
+            alone = alone;
+            its_check = its_check set.check refl;
+            its_target = record {
+              name = name;
+              rtype = set.rtype;
+              target = ap (target_in set.rtype) is;
+              are = are;
+              some = some_in members (λ e. targets_there after checks sound ref set names
+                  (no_target (sets_of (placed_in after ref.zone)) name is (sym are.sets ∙ ap (λ (l : List Slotted). sets_of l) e)));
+              bare = λ p m.
+                  let here = was_here before after checks reports index stands are_after slots_after delta ref come set names made allowed edits
+                  ref.zone p (are.here p m) (apart p m) in
+                  let plain = off p (are.here p m) (of p m).0 (of p m).1 in (
+                    plain,
+                    (
+                      (stands.wired.its_sets ref.zone p here).plain plain,
+                      bare_of name set.rtype no_leader p here (of p m).0 (of p m).1,
+                    ),
+                  );
+            };
+            are = refl;
+            within = all_of (λ x. x < size_of index.valves) (map (valve_with index.ids index.numbers) (option_to_list set.check))
+                (front_below set.check refl);
+            many = many;
+          },
+        ),
+      )
+
 pub can_come : AliasesCanCome
 can_come before after checks reports index made delta ref set name stands are_after slots_after sound allowed edits come names is none_leads led =
     comes before after checks reports index stands are_after slots_after sound delta ref come set names made allowed edits none_leads name is led
+
+pub can_come_first : FirstCanCome
+can_come_first before after checks reports index made delta ref set name stands are_after slots_after sound allowed edits come names is none_leads no_leader off =
+    comes_first before after checks reports index stands are_after slots_after sound delta ref come set names made allowed edits none_leads name is no_leader off

@@ -28,6 +28,7 @@ pub use Rattle.health_standing.proofs.Bare
 pub use Rattle.health_standing.proofs.Beside
 pub use Rattle.health_standing.proofs.ByOne
 pub use Rattle.health_standing.proofs.FedAlike
+pub use Rattle.health_standing.proofs.Founded
 pub use Rattle.health_standing.proofs.GroupJoined
 pub use Rattle.health_standing.proofs.GroupLeft
 pub use Rattle.health_standing.proofs.Keyed

@@ -26,6 +26,7 @@ use Rattle.health_index.specs.declared.following.Way.{Way}
 use Rattle.health_index.specs.declared.following.Way.TheVariants as way
 use Rattle.health_index.specs.Index.{AreNumbered, Index, IsEndpoint, IsEndpointOf, IsLaidFor, StandsFor, Tells}
 use Rattle.health_index.specs.Kin.{kin_of}
+use Rattle.health_index.specs.Founding.{ComesFirst}
 use Rattle.health_index.specs.Leading.{ComesToLead}
 use Rattle.health_index.specs.Regrouping.{HasCome, HasGone, JoinsGroup, LeavesGroup, TellNoOther}
 use Rattle.health_index.specs.Unleading.{LeavesValve}
@@ -129,3 +130,17 @@ AliasesCanCome = (before after : List Zone) (checks : Checks) (reports : List Re
     → HasCome delta ref → RefersTo after ref set → set.body ≡ body.Alias name true
     → (IsLedTo before ref.zone set.name set.rtype → ⊥) → IsLedTo before ref.zone name set.rtype
     → (feeders : List ℕ) × ComesToLead after index.ids index.numbers index.seats index.valves ref feeders
+
+-- Where such an alias came, and none leads where it leads, and nothing decides any set of its target group, seats tell
+-- all that is wanted to give both a valve.
+abbrev pub FirstCanCome : Type 0
+FirstCanCome = (before after : List Zone) (checks : Checks) (reports : List Report) (index : Index)
+    (made : ZoneEdit) (delta : Delta) (ref : SetRef) (set : RecordSet) (name : List (List ℕ))
+    → StandsFor before checks reports index → AreZones after → HaveSlotsApart after
+    → IsSound (watched_of after checks) → IsAllowed before made → Edits before made after delta
+    → HasCome delta ref → RefersTo after ref set → set.body ≡ body.Alias name true
+    → (IsLedTo before ref.zone set.name set.rtype → ⊥) → (IsLedTo before ref.zone name set.rtype → ⊥)
+    → ((p : Slotted) → IsHere (placed_in after ref.zone) p → name ≡ p.set.name → set.rtype ≡ p.set.rtype
+    → is_watched p.set ≡ false)
+    → (members : List Slotted) × ((feeders : List ℕ)
+    × ComesFirst after index.ids index.numbers index.seats index.valves ref members feeders)

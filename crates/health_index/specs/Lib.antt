@@ -16,6 +16,7 @@ pub use Rattle.health_planning.specs.Wired
 pub use Rattle.health_planning.specs.Groups
 pub use Rattle.health_planning.specs.Edits
 pub use Rattle.health_planning.specs.Looking
+pub use Rattle.health_standing.specs.Founding
 pub use Rattle.health_standing.specs.Index
 pub use Rattle.health_standing.specs.Kin
 pub use Rattle.health_standing.specs.Leading

@@ -33,6 +33,17 @@ pub record HasRoomForAlias (index : Index) (slots : ℕ) : Type 0 where
   pub refs : length index.refs < index.space.refs
   pub valves : HasValveRoom index.valves slots
 
+-- Fewer valves by one at least are there than over so many slots there can be, and fewer links by two.
+pub record HasValveRoomForTwo (valves : Valves) (slots : ℕ) : Type 0 where
+  pub valves_below : size_of valves + 1 < slots * 2 + 200
+  pub links_below : links_of valves + 2 ≤ slots * 3 + 51200
+
+-- One set more can have a valve of its own, and a group of so many sets that had none.
+pub record HasRoomForFirst (index : Index) (sets slots : ℕ) : Type 0 where
+  pub refs : length index.refs < index.space.refs
+  pub members : length index.members + sets ≤ index.space.members
+  pub valves : HasValveRoomForTwo index.valves slots
+
 -- Only room changes: checks, their valves, what their checkers saw, their children, seats, listed sets, noted
 -- members and values stay.
 pub record Keeps (before after : Index) : Type 0 where

@@ -17,11 +17,12 @@ ghost use Rattle.health_index.specs.Following.{IsFollowed, IsOpenTo, IsWay};
 ghost use Rattle.health_index.specs.declared.following.Way.{Way};
 ghost use Rattle.health_index.specs.declared.following.Way.TheVariants as way;
 ghost use Rattle.health_index.specs.Kin.{kin_of};
+ghost use Rattle.health_index.specs.Founding.{ComesFirst, Founds};
 ghost use Rattle.health_index.specs.Leading.{ComesToLead, GetsValve};
 ghost use Rattle.health_index.specs.Leaving.{AreLeft, KeepsValves, Moves, SparesValves};
 ghost use Rattle.health_index.specs.Regrouping.{HasCome, HasGone, Joins, JoinsGroup, Leaves};
 ghost use Rattle.health_index.specs.Regrouping.{LeavesGroup, TellNoOther};
-ghost use Rattle.health_index.specs.Room.{HasRoom, HasRoomForAlias, Keeps};
+ghost use Rattle.health_index.specs.Room.{HasRoom, HasRoomForAlias, HasRoomForFirst, Keeps};
 ghost use Rattle.health_index.specs.Unleading.{LeavesValve, Unleads};
 ghost use Rattle.health_index.specs.Values.{WorksOut};
 ghost use Rattle.health_planning.specs.Wired.{group_seat, is_watched, watched_of};
@@ -32,6 +33,7 @@ ghost use Rattle.health_planning.specs.Looking.{RefersTo};
 ghost use Rattle.health_planning.specs.SetRefRecord.{SetRef};
 ghost use Rattle.health_planning.specs.Zones.{Zone};
 ghost use Rattle.record_set.specs.declared.sets.RecordSet.{RecordSet};
+ghost use Rattle.zone_model.specs.Slotted.{Slotted};
 
 use crate::following::{
     Way, fresh_checkers, has_checkers, has_ids, is_endpoint, reshape_checks, way_of,
@@ -39,7 +41,8 @@ use crate::following::{
 use crate::kin::{has_kin, list_kin};
 use crate::laws::index_tells_health;
 use crate::reserving::{
-    each_ok, has_room_for_one, room_for_checks, room_for_kin, room_for_numbers, room_for_slots,
+    each_ok, has_room_for, has_room_for_one, has_room_for_two, room_for_checks, room_for_kin,
+    room_for_numbers, room_for_slots,
 };
 use crate::taking::take_result;
 use crate::valve_numbers::{asks_all, has_number, keep_numbers, spare_number};
@@ -51,8 +54,9 @@ use health_planning::{
     place_near, plan_valves, seat_anew, seat_beside, views_agree,
 };
 use health_standing::{
-    alias_come, gone_by, group_joined, group_left, leaves_valves, one_come, one_gone, own_in,
-    push_alias, put_seat, seat_in, spares_valves, tells_of_check, valve_left, valve_of,
+    alias_come, first_come, gone_by, group_joined, group_left, leaves_valves, note_those, one_come,
+    one_gone, own_in, push_alias, push_first, put_seat, seat_first, seat_in, spares_valves,
+    tells_of_check, valve_left, valve_of,
 };
 use health_valves::{Blueprint, Steps, Valves};
 use octets::OutOfMemory;
@@ -288,6 +292,14 @@ impl HealthIndex {
             → HasRoomForAlias self.old zones.now.slots
             → GetsValve ref feeders self.old self.new }
 
+        // Where one evaluated alias came, of a group without a valve, the first that leads to its target group, and
+        // nothing decides any set of that, there are two valves more: one at which the sets of the group are counted,
+        // and one that this and that of the alias's check feed; and seats tell them; where there is room for two.
+        ensures founded { (ref : SetRef) (members : List Slotted) (feeders : List ℕ) → HasCome delta.now ref
+            → ComesFirst zones.now.zones self.old.ids self.old.numbers self.old.seats self.old.valves ref members feeders
+            → HasRoomForFirst self.old (length members) zones.now.slots
+            → Founds ref members feeders self.old self.new }
+
         // Where calculated checks stay with their children, and those of endpoints do or one of them came or
         // went, nothing changes but the valves of checks, those above, and what the index has of that one.
         ensures in_place { (way : Way) → delta.now.zone ≡ 0 → self.old.kin ≡ kin_of checks.now.checks.list
@@ -388,7 +400,12 @@ impl HealthIndex {
             → ComesToLead zones.now.zones self.old.ids self.old.numbers self.old.seats self.old.valves ref feeders
             → HasRoomForAlias self.old zones.now.slots
             → (result ≡ true) × GetsValve ref feeders self.old self.new }
+        ensures founded { (ref : SetRef) (members : List Slotted) (feeders : List ℕ) → HasCome delta.now ref
+            → ComesFirst zones.now.zones self.old.ids self.old.numbers self.old.seats self.old.valves ref members feeders
+            → HasRoomForFirst self.old (length members) zones.now.slots
+            → (result ≡ true) × Founds ref members feeders self.old self.new }
     {
+        zones.well_formed();
         if let Some(set) = one_gone(delta) {
             if self.leave(zones, checks, delta, set) {
                 return true;
@@ -399,7 +416,10 @@ impl HealthIndex {
             if self.join(zones, checks, delta, set) {
                 return true;
             }
-            return self.lead_in(zones, checks, delta, set);
+            if self.lead_in(zones, checks, delta, set) {
+                return true;
+            }
+            return self.found_in(zones, checks, delta, set);
         }
         false
     }
@@ -500,6 +520,8 @@ impl HealthIndex {
             → AreLeft before old zones.now.zones checks.now.checks delta.now → result ≡ true
             → StandsFor zones.now.zones checks.now.checks reports self.new }
         ensures stays { result ≡ false → self.new ≡ self.old }
+        ensures comes { result ≡ true → (feeders : List ℕ) × ComesToLead zones.now.zones self.old.ids self.old.numbers
+            self.old.seats self.old.valves set feeders }
         ensures led { (feeders : List ℕ)
             → ComesToLead zones.now.zones self.old.ids self.old.numbers self.old.seats self.old.valves set feeders
             → HasRoomForAlias self.old zones.now.slots
@@ -530,6 +552,54 @@ impl HealthIndex {
         push_alias(&mut self.valves, feeders);
         self.refs.push_reserved(set);
         own_in(zones, &mut self.seats, set.slot, told);
+        true
+    }
+
+    /// Takes a command by which one evaluated alias alone came, of a group without a valve, the first one that
+    /// leads to a target group of whose sets nothing decides any.
+    fn found_in(&mut self, zones: &Zones, checks: &CheckTable, delta: &Delta, alias: SetRef) -> bool
+        requires room { HasRoom self.old zones.now.slots }
+        requires sound { IsSound (watched_of zones.now.zones checks.now.checks) }
+        requires come { HasCome delta.now alias }
+        ensures stands { (before : List Zone) (old : Checks) (reports : List Report)
+            → StandsFor before old reports self.old
+            → AreLeft before old zones.now.zones checks.now.checks delta.now → result ≡ true
+            → StandsFor zones.now.zones checks.now.checks reports self.new }
+        ensures stays { result ≡ false → self.new ≡ self.old }
+        ensures founded { (members : List Slotted) (feeders : List ℕ)
+            → ComesFirst zones.now.zones self.old.ids self.old.numbers self.old.seats self.old.valves alias members feeders
+            → HasRoomForFirst self.old (length members) zones.now.slots
+            → (result ≡ true) × Founds alias members feeders self.old self.new }
+    {
+        paths_end();
+        zones.well_formed();
+        zones.slots_apart();
+        zones.slots_within();
+        let Some(first) = first_come(
+            zones,
+            &self.ids,
+            &self.numbers,
+            &self.seats,
+            &self.valves,
+            alias,
+            &mut self.scratch,
+        ) else {
+            return false;
+        };
+        if self.refs.len() >= self.refs.capacity() {
+            return false;
+        }
+        if !has_room_for(&self.members, first.group.length) {
+            return false;
+        }
+        if !has_room_for_two(&self.valves, zones.slots()) {
+            return false;
+        }
+        let told = self.valves.len() as u32 + 1;
+        push_first(&mut self.valves, first.check, first.group.length as u32);
+        self.refs.push_reserved(alias);
+        note_those(zones, first.group, &mut self.members);
+        seat_first(zones, first.group, alias.slot, told, &mut self.seats);
         true
     }
 

@@ -2,7 +2,7 @@
 
 ghost use Rattle.health_index.specs.Laws.{AliasesCanCome, AliasesCanLeave, ChecksAreLater, IndexTells};
 ghost use Rattle.health_index.specs.Laws.{ChecksCanFollow, CommandsCanFollow, NodesAreNumbered, NodesHaveValues};
-ghost use Rattle.health_index.specs.Laws.{SetsCanJoin, SetsCanLeave, StandsWhereAllMeet};
+ghost use Rattle.health_index.specs.Laws.{FirstCanCome, SetsCanJoin, SetsCanLeave, StandsWhereAllMeet};
 
 use health_model::one_health;
 use health_planning::views_agree;
@@ -60,4 +60,10 @@ pub fn aliases_can_leave()
 /// another one leads to its target group, the index has what it wants to give it a valve in place.
 pub fn aliases_can_come()
     ensures { AliasesCanCome }
+{}
+
+/// Where an index stands for zones, and an evaluated alias comes by an edit, of a group to which none leads, and none
+/// leads where it leads, and nothing decides any set there, the index has what it wants to give both a valve in place.
+pub fn first_can_come()
+    ensures { FirstCanCome }
 {}

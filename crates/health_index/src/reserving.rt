@@ -1,7 +1,7 @@
 //! Room in which all valves can be laid out anew.
 
 ghost use Rattle.std.specs.Prelude.{◌≡◌, ◌≤◌, ◌<◌, ◌+◌, ◌*◌, ◌^◌, ◌↔◌, ℕ, IsOk, IsTrue, OnOk, length, vec_capacity};
-ghost use Rattle.health_index.specs.Room.{HasValveRoom};
+ghost use Rattle.health_index.specs.Room.{HasValveRoom, HasValveRoomForTwo};
 ghost use Rattle.health_valves.specs.Valves.{ValvesStandFor, Net};
 ghost use Rattle.health_valves.specs.Laying.{HasRoomFor};
 ghost use Rattle.health_valves.specs.Pass.{IsIdle, MeetAll};
@@ -140,6 +140,21 @@ pub fn has_room_for_one(valves: &Valves, slots: usize) -> bool
     ensures { IsTrue result ↔ HasValveRoom valves.now slots }
 {
     valves.len() < slots * 2 + CHECKS && valves.links() <= slots * 3 + CHECK_LINKS - 2
+}
+
+/// Whether so many references more want no memory.
+pub fn has_room_for(refs: &Vec<SetRef>, more: usize) -> bool
+    ensures { IsTrue result ↔ length refs.now.items + more ≤ vec_capacity refs.now }
+{
+    more <= refs.capacity() - refs.len()
+}
+
+/// Whether there is room for two valves more with two links.
+pub fn has_room_for_two(valves: &Valves, slots: usize) -> bool
+    requires few { slots ≤ 2 ^ 29 }
+    ensures { IsTrue result ↔ HasValveRoomForTwo valves.now slots }
+{
+    valves.len() < slots * 2 + CHECKS - 1 && valves.links() <= slots * 3 + CHECK_LINKS - 2
 }
 
 /// Whether there was room each time.

@@ -50,12 +50,12 @@ use Rattle.record_set.specs.declared.sets.RecordSet.{RecordSet}
 use Rattle.zone_model.specs.Slotted.{IsHere, Slotted, sets_of}
 use Rattle.zone_model.specs.Zones.{IsAmong, is_of_group}
 
-slotted_is : (p : Slotted) (slot : ℕ) (set : RecordSet) → p.slot ≡ slot → p.set ≡ set
+pub slotted_is : (p : Slotted) (slot : ℕ) (set : RecordSet) → p.slot ≡ slot → p.set ≡ set
     → record { slot = slot; set = set } ≡ p
 slotted_is p slot set slots sets =
     ap (λ (n : ℕ). record { slot = n; set = set }) (sym slots) ∙ ap (λ (s : RecordSet). record { slot = p.slot; set = s }) (sym sets)
 
-some_seat : (seat v : ℕ) → own_part seat ≡ suc v → seat ≢ 0
+pub some_seat : (seat v : ℕ) → own_part seat ≡ suc v → seat ≢ 0
 some_seat seat v is none = let same = own_suc seat v is in omega (arith, same, none)
 
 module _ (before after : List Zone) (checks : Checks) (reports : List Report) (index : Index)

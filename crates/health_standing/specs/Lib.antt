@@ -1,3 +1,4 @@
+pub mod Founding
 pub mod Index
 pub mod Kin
 pub mod Leading

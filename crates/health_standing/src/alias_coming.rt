@@ -25,8 +25,8 @@ use health_valves::Valves;
 /// of its target group.
 #[derive(Clone, Copy)]
 pub struct AliasFeeders {
-    check: Option<u32>,
-    group: u32,
+    pub(crate) check: Option<u32>,
+    pub(crate) group: u32,
 }
 
 /// The valve of the target group of an alias, given as one more; 0 where it has none.
@@ -154,7 +154,7 @@ pub fn push_alias(valves: &mut Valves, feeders: AliasFeeders)
 }
 
 /// Another seat in a slot: one that tells a valve of the set's own, given as one more.
-fn put_own(seats: &mut Vec<Seat>, slot: u32, told: u32)
+pub(crate) fn put_own(seats: &mut Vec<Seat>, slot: u32, told: u32)
     requires { slot < length seats.old.items }
     ensures seated { IsSeatedOwn slot told seats.old.items seats.new.items }
     ensures room { vec_capacity seats.new ≡ vec_capacity seats.old }

@@ -156,6 +156,7 @@ pub fn group_joined(
 pub fn put_seat(seats: &mut Vec<Seat>, slot: u32, group: u32)
     requires { slot < length seats.old.items }
     ensures seated { IsSeatedIn slot group seats.old.items seats.new.items }
+    ensures size { length seats.new.items ≡ length seats.old.items }
     ensures room { vec_capacity seats.new ≡ vec_capacity seats.old }
 {
     seats[slot as usize] = Seat {

@@ -125,3 +125,10 @@ returns-clause-led c feeders comes room =
             (c.push_alias.ensures.fits net own (subst (λ (i : Index). ValvesStandFor net own i.valves) (sym c.self.view_is) fits));
       },
     )
+
+pub returns-clause-comes : goal.returns-clause-comes
+returns-clause-comes c done =
+    let zones = c.args.zones.now.zones in
+    let comes = comes_by zones c.args.set (listed_in c.in-Some.feeders) c.deref.ensures.value c.deref-2.ensures.value c.deref-3.ensures.value refl
+    (c.in-Some.ensures.found c.in-Some.feeders refl) in
+    (listed_in c.in-Some.feeders, subst (λ (i : Index). ComesToLead zones i.ids i.numbers i.seats i.valves c.args.set (listed_in c.in-Some.feeders)) c.self.view_is comes)

@@ -2,6 +2,7 @@ use Rattle.std.proofs.Common.{◌≡◌, ◌≤◌, ◌<◌, ℕ, suc, List, len
 use Rattle.std.proofs.lemmas.Bool.{false≢true}
 use mathlib.Core.Path.{subst}
 use Rattle.health_index.proofs.ByOne.{joined_not_beside, joined_not_kept, left_not_beside, left_not_kept}
+use Rattle.health_index.proofs.Founded.{founded_not_beside, founded_not_kept}
 use Rattle.health_index.proofs.Led.{led_not_beside, led_not_kept}
 use Rattle.health_index.proofs.Moving.{all_moved, zones_stay}
 use Rattle.health_index.proofs.Unled.{unled_not_beside, unled_not_kept}
@@ -10,9 +11,10 @@ use Rattle.health_index.proofs.Staying.{leaves_follow, stands_with_valves}
 use Rattle.health_index.specs.Index.{Index, StandsFor}
 use Rattle.health_index.specs.Following.{AreSame, Follows, IsOpenTo, IsWay}
 use Rattle.health_index.specs.Kin.{kin_of}
+use Rattle.health_index.specs.Founding.{ComesFirst, Founds}
 use Rattle.health_index.specs.Leading.{ComesToLead, GetsValve}
 use Rattle.health_index.specs.Regrouping.{Joins, JoinsGroup, Leaves, LeavesGroup, TellNoOther}
-use Rattle.health_index.specs.Room.{HasRoom, HasRoomForAlias}
+use Rattle.health_index.specs.Room.{HasRoom, HasRoomForAlias, HasRoomForFirst}
 use Rattle.health_index.specs.Unleading.{LeavesValve, Unleads}
 use Rattle.health_planning.specs.DeltaRecord.{Delta}
 use Rattle.health_planning.specs.Wired.{set_seat}
@@ -227,6 +229,44 @@ returns-clause-led c ref feeders come comes room =
     absurd (false≢true (c.if-regroup.ensures.led ref feeders come
     (subst (λ (i : Index). ComesToLead zones i.ids i.numbers i.seats i.valves ref feeders) (sym same) comes)
     (subst (λ (i : Index). HasRoomForAlias i c.args.zones.now.slots) (sym same) room)).0)
+
+-- where the first one came that leads to a group
+pub returns-then-leaves_valves-clause-founded : goal.returns-then-leaves_valves-clause-founded
+returns-then-leaves_valves-clause-founded c ref members feeders come comes room =
+    let zones = c.args.zones.now.zones in
+    absurd (founded_not_kept zones c.well_formed-2.ensures c.args.self.now.ids c.args.self.now.numbers c.args.self.now.seats c.args.self.now.valves c.args.delta.now ref members feeders
+    (kept_by zones c.args.delta.now
+    (c.deref.ensures.value ∙ ap (λ (i : Index). i.ids) c.self.view_is)
+    (c.deref-2.ensures.value ∙ ap (λ (i : Index). i.numbers) c.self.view_is)
+    (c.deref-3.ensures.value ∙ ap (λ (i : Index). i.seats) c.self.view_is)
+    (ap (λ (i : Index). i.valves) c.self.view_is) (c.if-leaves_valves.ensures.0 refl)) come comes)
+
+pub returns-then-reseat-clause-founded : goal.returns-then-reseat-clause-founded
+returns-then-reseat-clause-founded c ref members feeders come comes room =
+    let zones = c.args.zones.now.zones in
+    let now = c.args.self.now in
+    absurd (founded_not_beside zones c.well_formed-2.ensures now.ids now.numbers now.seats now.valves c.args.delta.now ref members feeders
+    (subst (λ (i : Index). SparesValves zones i.seats c.args.delta.now) c.self.view_is (c.if-reseat.ensures.spares refl)) come comes)
+
+pub returns-then-regroup-clause-founded : goal.returns-then-regroup-clause-founded
+returns-then-regroup-clause-founded c ref members feeders come comes room =
+    let zones = c.args.zones.now.zones in
+    let same = c.if-reseat.ensures.stays refl ∙ c.self.view_is in
+    subst (λ (i : Index). Founds ref members feeders i c.regroup.new.self) same
+    (c.if-regroup.ensures.founded ref members feeders come
+    (subst (λ (i : Index). ComesFirst zones i.ids i.numbers i.seats i.valves ref members feeders) (sym same) comes)
+    (subst (λ (i : Index). HasRoomForFirst i (length members) c.args.zones.now.slots) (sym same) room)).1
+
+pub returns-then-follow-clause-founded : goal.returns-then-follow-clause-founded
+returns-then-follow-clause-founded c ref members feeders come comes room = absurd (come.zone (c.if-follow.ensures.zone refl))
+
+pub returns-clause-founded : goal.returns-clause-founded
+returns-clause-founded c ref members feeders come comes room =
+    let zones = c.args.zones.now.zones in
+    let same = c.if-reseat.ensures.stays refl ∙ c.self.view_is in
+    absurd (false≢true (c.if-regroup.ensures.founded ref members feeders come
+    (subst (λ (i : Index). ComesFirst zones i.ids i.numbers i.seats i.valves ref members feeders) (sym same) comes)
+    (subst (λ (i : Index). HasRoomForFirst i (length members) c.args.zones.now.slots) (sym same) room)).0)
 
 pub returns-then-follow-clause-left : goal.returns-then-follow-clause-left
 returns-then-follow-clause-left c ref valve gone leaves = absurd (gone.zone (c.if-follow.ensures.zone refl))

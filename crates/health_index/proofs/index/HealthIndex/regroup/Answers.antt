@@ -1,9 +1,11 @@
-use Rattle.std.proofs.Common.{◌≡◌, ◌∷◌, [], true, Option, refl, sym, ◌∙◌}
+use Rattle.std.proofs.Common.{◌≡◌, ◌∷◌, [], true, Option, length, refl, sym, ◌∙◌}
 use Rattle.std.proofs.lemmas.Bool.{false≢true}
 use mathlib.Core.Path.{subst}
 use Rattle.health_index.proofs.Regrouped.{watched_on}
+use Rattle.health_index.proofs.Founded.{founded_not_led}
+use Rattle.health_index.specs.Founding.{ComesFirst, Founds}
 use Rattle.health_index.specs.Leading.{ComesToLead, GetsValve}
-use Rattle.health_index.specs.Room.{HasRoom, HasRoomForAlias}
+use Rattle.health_index.specs.Room.{HasRoom, HasRoomForAlias, HasRoomForFirst}
 use Rattle.health_index.specs.Regrouping.{IsCome, IsGone, Joins, JoinsGroup, Leaves, LeavesGroup, TellNoOther}
 use Rattle.health_index.specs.Index.{Index, StandsFor}
 use Rattle.health_index.specs.Unleading.{LeavesValve, Unleads}
@@ -71,13 +73,69 @@ returns-then-join-clause-led c ref feeders come comes room =
     let off = c.if-join.ensures.off refl comes.set (subst (λ (r : SetRef). RefersTo zones r comes.set) (sym one) comes.names) in
     absurd (false≢true (sym off ∙ watched_on comes.set comes.on))
 
+pub returns-then-join-clause-founded : goal.returns-then-join-clause-founded
+returns-then-join-clause-founded c ref members feeders come comes room =
+    let is = subst (λ (o : Option SetRef). IsCome c.args.delta.now o) c.in-Some-one_come.is c.one_come.ensures in
+    let one = one_same (sym is.added ∙ come.added) in
+    let zones = c.args.zones.now.zones in
+    let off = c.if-join.ensures.off refl comes.set (subst (λ (r : SetRef). RefersTo zones r comes.set) (sym one) comes.names) in
+    absurd (false≢true (sym off ∙ watched_on comes.set comes.on))
+
 pub lead_in-requires-clause-room : goal.lead_in-requires-clause-room
 lead_in-requires-clause-room c =
     subst (λ (i : Index). HasRoom i c.args.zones.now.slots) (sym (c.if-join.ensures.stays refl)) c.requires.room
 
+pub returns-then-lead_in-clause-stands : goal.returns-then-lead_in-clause-stands
+returns-then-lead_in-clause-stands c before old reports stands left done =
+    c.if-lead_in.ensures.stands before old reports (subst (StandsFor before old reports) (sym (c.if-join.ensures.stays refl)) stands) left refl
+
+pub returns-then-lead_in-clause-joined : goal.returns-then-lead_in-clause-joined
+returns-then-lead_in-clause-joined c ref named valve come joins names alike few =
+    let is = subst (λ (o : Option SetRef). IsCome c.args.delta.now o) c.in-Some-one_come.is c.one_come.ensures in
+    let one = one_same (sym is.added ∙ come.added) in
+    let zones = c.args.zones.now.zones in
+    let seats = c.args.self.now.seats in
+    absurd (false≢true
+    (c.if-join.ensures.joined named valve
+    (subst (λ (r : SetRef). JoinsGroup zones seats c.args.self.now.valves r valve) (sym one) joins)
+    (subst (λ (r : SetRef). RefersTo zones r named) (sym one) names)
+    (subst (λ (r : SetRef). TellNoOther zones seats r.zone named.name named.rtype valve) (sym one) alike) few).0)
+
+pub returns-then-lead_in-clause-led : goal.returns-then-lead_in-clause-led
+returns-then-lead_in-clause-led c ref feeders come comes room =
+    let is = subst (λ (o : Option SetRef). IsCome c.args.delta.now o) c.in-Some-one_come.is c.one_come.ensures in
+    let one = one_same (sym is.added ∙ come.added) in
+    let zones = c.args.zones.now.zones in
+    let same = c.if-join.ensures.stays refl in
+    let l = c.if-lead_in.ensures.led feeders
+    (subst (λ (i : Index). ComesToLead zones i.ids i.numbers i.seats i.valves c.in-Some-one_come.set feeders) (sym same)
+    (subst (λ (r : SetRef). ComesToLead zones c.args.self.now.ids c.args.self.now.numbers c.args.self.now.seats c.args.self.now.valves r feeders) (sym one) comes))
+    (subst (λ (i : Index). HasRoomForAlias i c.args.zones.now.slots) (sym same) room) in (
+      refl,
+      subst (λ (i : Index). GetsValve ref feeders i c.lead_in.new.self) same
+          (subst (λ (r : SetRef). GetsValve r feeders c.join.new.self c.lead_in.new.self) one l.1),
+    )
+
+pub returns-then-lead_in-clause-founded : goal.returns-then-lead_in-clause-founded
+returns-then-lead_in-clause-founded c ref members feeders come comes room =
+    let is = subst (λ (o : Option SetRef). IsCome c.args.delta.now o) c.in-Some-one_come.is c.one_come.ensures in
+    let one = one_same (sym is.added ∙ come.added) in
+    let zones = c.args.zones.now.zones in
+    let same = c.if-join.ensures.stays refl in
+    let leads = c.if-lead_in.ensures.comes refl in
+    let now = c.args.self.now in
+    absurd (founded_not_led zones c.well_formed-2.ensures now.ids now.numbers now.seats now.valves ref members feeders leads.0
+    (subst (λ (r : SetRef). ComesToLead zones now.ids now.numbers now.seats now.valves r leads.0) one
+    (subst (λ (i : Index). ComesToLead zones i.ids i.numbers i.seats i.valves c.in-Some-one_come.set leads.0) same leads.1)) comes)
+
+pub found_in-requires-clause-room : goal.found_in-requires-clause-room
+found_in-requires-clause-room c =
+    subst (λ (i : Index). HasRoom i c.args.zones.now.slots) (sym (c.if-lead_in.ensures.stays refl ∙ c.if-join.ensures.stays refl)) c.requires.room
+
 pub returns-in-Some-one_come-clause-stands : goal.returns-in-Some-one_come-clause-stands
 returns-in-Some-one_come-clause-stands c before old reports stands left done =
-    c.lead_in.ensures.stands before old reports (subst (StandsFor before old reports) (sym (c.if-join.ensures.stays refl)) stands) left done
+    c.found_in.ensures.stands before old reports
+    (subst (StandsFor before old reports) (sym (c.if-lead_in.ensures.stays refl ∙ c.if-join.ensures.stays refl)) stands) left done
 
 pub returns-in-Some-one_come-clause-joined : goal.returns-in-Some-one_come-clause-joined
 returns-in-Some-one_come-clause-joined c ref named valve come joins names alike few =
@@ -97,11 +155,22 @@ returns-in-Some-one_come-clause-led c ref feeders come comes room =
     let one = one_same (sym is.added ∙ come.added) in
     let zones = c.args.zones.now.zones in
     let same = c.if-join.ensures.stays refl in
-    let l = c.lead_in.ensures.led feeders
+    absurd (false≢true (c.if-lead_in.ensures.led feeders
     (subst (λ (i : Index). ComesToLead zones i.ids i.numbers i.seats i.valves c.in-Some-one_come.set feeders) (sym same)
     (subst (λ (r : SetRef). ComesToLead zones c.args.self.now.ids c.args.self.now.numbers c.args.self.now.seats c.args.self.now.valves r feeders) (sym one) comes))
-    (subst (λ (i : Index). HasRoomForAlias i c.args.zones.now.slots) (sym same) room) in (
+    (subst (λ (i : Index). HasRoomForAlias i c.args.zones.now.slots) (sym same) room)).0)
+
+pub returns-in-Some-one_come-clause-founded : goal.returns-in-Some-one_come-clause-founded
+returns-in-Some-one_come-clause-founded c ref members feeders come comes room =
+    let is = subst (λ (o : Option SetRef). IsCome c.args.delta.now o) c.in-Some-one_come.is c.one_come.ensures in
+    let one = one_same (sym is.added ∙ come.added) in
+    let zones = c.args.zones.now.zones in
+    let same = c.if-lead_in.ensures.stays refl ∙ c.if-join.ensures.stays refl in
+    let l = c.found_in.ensures.founded members feeders
+    (subst (λ (i : Index). ComesFirst zones i.ids i.numbers i.seats i.valves c.in-Some-one_come.set members feeders) (sym same)
+    (subst (λ (r : SetRef). ComesFirst zones c.args.self.now.ids c.args.self.now.numbers c.args.self.now.seats c.args.self.now.valves r members feeders) (sym one) comes))
+    (subst (λ (i : Index). HasRoomForFirst i (length members) c.args.zones.now.slots) (sym same) room) in (
       l.0,
-      subst (λ (i : Index). GetsValve ref feeders i c.lead_in.new.self) same
-          (subst (λ (r : SetRef). GetsValve r feeders c.join.new.self c.lead_in.new.self) one l.1),
+      subst (λ (i : Index). Founds ref members feeders i c.found_in.new.self) same
+          (subst (λ (r : SetRef). Founds r members feeders c.lead_in.new.self c.found_in.new.self) one l.1),
     )

@@ -1,0 +1,243 @@
+//! Commands by which the first evaluated alias comes that leads to a group, of whose sets nothing decides any, while
+//! its own group has no valve: that group gets a valve, at which its sets are counted, and the alias one behind it.
+
+ghost use Rattle.std.specs.Prelude.{◌≡◌, ◌≤◌, ◌<◌, ◌+◌, ◌-◌, ◌++◌, ◌^◌, ◌↔◌, ℕ, All, IsTrue, List, None, Option, Some, length, map};
+ghost use Rattle.std.specs.Prelude.{vec_capacity};
+ghost use Rattle.std.specs.Option.{option_to_list};
+ghost use Rattle.health_standing.specs.Founding.{AllBare, AreSeatedAt, AreSeatedFirst, ComesFirst};
+ghost use Rattle.health_standing.specs.Founding.{HasBareTarget, HasRoomForTwo, IsBare, refs_of};
+ghost use Rattle.health_standing.specs.Founding.{with_two_counts, with_two_more};
+ghost use Rattle.health_standing.specs.Leading.{HasItsCheck};
+ghost use Rattle.health_standing.specs.declared.founding.FirstAlias.{FirstAlias};
+ghost use Rattle.health_planning.specs.Groups.{members_of};
+ghost use Rattle.health_planning.specs.GroupRecord.{Group};
+ghost use Rattle.health_planning.specs.Looking.{IsGroupNow, RefersTo};
+ghost use Rattle.health_planning.specs.Wired.{StandApart, valve_with};
+ghost use Rattle.health_valves.specs.Laying.{HasRoomFor};
+ghost use Rattle.health_valves.specs.Pass.{IsIdle, MeetAll};
+ghost use Rattle.health_valves.specs.Valves.{HasEnds, IsReady, Net, ValvesStandFor, size_of};
+ghost use Rattle.record_set.specs.declared.sets.RecordSet.{RecordSet};
+ghost use Rattle.zone_model.specs.Slotted.{Slotted};
+
+use crate::alias_coming::{AliasFeeders, push_alias, put_own};
+use crate::finding::find_seat;
+use crate::regrouping::put_seat;
+use crate::valve_leaving::has_no_valve;
+use health_planning::{
+    Group, MOST_CHECKS, Scratch, Seat, SetRef, Zones, find_group, grow_seats, is_watched,
+    number_at, place_near,
+};
+use health_valves::Valves;
+
+/// The target group of an evaluated alias, and the valve of the check that it names, if it names one.
+#[derive(Clone, Copy)]
+pub struct FirstAlias {
+    pub group: Group,
+    pub check: Option<u32>,
+}
+
+/// Whether nothing decides the set that a reference names, and the seat in its slot tells nothing.
+fn is_bare(zones: &Zones, seats: &[Seat], set: SetRef) -> bool
+    ensures { (named : RecordSet) → RefersTo zones.now.zones set named
+        → IsTrue result ↔ IsBare seats.now set.slot named }
+{
+    zones.well_formed();
+    let Some(watch) = zones.watch(set) else {
+        return false;
+    };
+    if is_watched(watch) {
+        return false;
+    }
+    let seat = find_seat(seats, set.slot);
+    if seat.set != 0 {
+        return false;
+    }
+    seat.group == 0
+}
+
+/// The same of all sets of a group.
+fn are_bare(zones: &Zones, seats: &[Seat], group: Group) -> bool
+    requires { IsGroupNow zones.now.zones group }
+    ensures { IsTrue result ↔ AllBare seats.now (members_of zones.now.zones group) }
+{
+    for i in 0..group.length {
+        if !is_bare(zones, seats, zones.member(group, i)) {
+            return false;
+        }
+    }
+    true
+}
+
+/// The target group of an alias, where nothing decides any of its sets, and the seats of these tell nothing.
+fn bare_target(zones: &Zones, seats: &[Seat], set: SetRef) -> Option<Group>
+    ensures found { (its : Group) (named : RecordSet) → result ≡ Some its → RefersTo zones.now.zones set named
+        → IsGroupNow zones.now.zones its × ((its.zone ≡ set.zone)
+        × ((its.length ≡ length (members_of zones.now.zones its))
+        × HasBareTarget zones.now.zones seats.now set.zone named (members_of zones.now.zones its))) }
+    ensures all { (named : RecordSet) (members : List Slotted) → RefersTo zones.now.zones set named
+        → HasBareTarget zones.now.zones seats.now set.zone named members
+        → (its : Group) × ((result ≡ Some its) × (members_of zones.now.zones its ≡ members)) }
+{
+    zones.well_formed();
+    let Some(target) = zones.target(set) else {
+        return None;
+    };
+    let group = find_group(zones, set.zone, &target.0, target.1);
+    if group.length == 0 {
+        return None;
+    }
+    if !are_bare(zones, seats, group) {
+        return None;
+    }
+    Some(group)
+}
+
+/// The valve of a check that is named, if one is. None where no check has the number.
+fn check_from(ids: &[u32], numbers: &[u32], check: Option<u32>) -> Option<Option<u32>>
+    requires apart { StandApart ids.now }
+    requires as_many { length numbers.now ≡ length ids.now }
+    ensures found { (its : Option ℕ) → result ≡ Some its
+        → HasItsCheck ids.now check
+        × (option_to_list its ≡ map (valve_with ids.now numbers.now) (option_to_list check)) }
+    ensures none { result ≡ None → HasItsCheck ids.now check → ⊥ }
+{
+    let Some(id) = check else {
+        return Some(None);
+    };
+    let Some(place) = place_near(ids, id) else {
+        return None;
+    };
+    Some(Some(number_at(numbers, place)))
+}
+
+/// Whether this is a valve that there is, if it is one.
+fn is_there(valves: &Valves, check: Option<u32>) -> bool
+    ensures { IsTrue result ↔ All (λ x. x < size_of valves.now) (option_to_list check) }
+{
+    match check {
+        Some(valve) => (valve as usize) < valves.len(),
+        None => true,
+    }
+}
+
+/// The target group of an evaluated alias that came, and the valve of the check that it names, where its own
+/// group has no valve, and nothing decides any set of the target group. The alias is read into the scratch.
+pub fn first_come(
+    zones: &Zones,
+    ids: &[u32],
+    numbers: &[u32],
+    seats: &[Seat],
+    valves: &Valves,
+    set: SetRef,
+    scratch: &mut Scratch,
+) -> Option<FirstAlias>
+    requires apart { StandApart ids.now }
+    requires as_many { length numbers.now ≡ length ids.now }
+    ensures found { (its : FirstAlias) → result ≡ Some its
+        → ComesFirst zones.now.zones ids.now numbers.now seats.now valves.now set
+        (members_of zones.now.zones its.group) (option_to_list its.check) }
+    ensures group { (its : FirstAlias) → result ≡ Some its
+        → IsGroupNow zones.now.zones its.group × ((its.group.zone ≡ set.zone)
+        × (its.group.length ≡ length (members_of zones.now.zones its.group))) }
+    ensures all { (members : List Slotted) (feeders : List ℕ)
+        → ComesFirst zones.now.zones ids.now numbers.now seats.now valves.now set members feeders
+        → (its : FirstAlias) × ((result ≡ Some its) × ((members_of zones.now.zones its.group ≡ members)
+        × (option_to_list its.check ≡ feeders))) }
+{
+    zones.well_formed();
+    let Some(watch) = zones.watch(set) else {
+        return None;
+    };
+    if !watch.evaluates {
+        return None;
+    }
+    let seat = find_seat(seats, set.slot);
+    if seat.set != 0 {
+        return None;
+    }
+    if seat.group != 0 {
+        return None;
+    }
+    if valves.len() < MOST_CHECKS {
+        return None;
+    }
+    if !has_no_valve(zones, seats, set, scratch) {
+        return None;
+    }
+    let Some(group) = bare_target(zones, seats, set) else {
+        return None;
+    };
+    let Some(check) = check_from(ids, numbers, watch.check) else {
+        return None;
+    };
+    if !is_there(valves, check) {
+        return None;
+    }
+    Some(FirstAlias { group, check })
+}
+
+/// Two valves more, behind all: one at which so many are counted from outside, at most 2^31, of which there has to
+/// be one; and one that this and a check's feed, if one is given. It takes no memory.
+pub fn push_first(valves: &mut Valves, check: Option<u32>, sets: u32)
+    requires ready { IsReady valves.old }
+    requires idle { IsIdle valves.old }
+    requires check { All (λ x. x < size_of valves.old) (option_to_list check) }
+    requires sets { sets ≤ 2 ^ 31 }
+    requires few { size_of valves.old < 2 ^ 32 }
+    requires room { HasRoomForTwo valves.old }
+    ensures fits { (net : Net) (own : ℕ → ℕ) → ValvesStandFor net own valves.old
+        → ValvesStandFor (with_two_more (option_to_list check) net) (with_two_counts sets net.size own) valves.new }
+    ensures idle { IsIdle valves.new }
+    ensures meet { (net : Net) (own : ℕ → ℕ) → ValvesStandFor net own valves.old
+        → HasEnds (with_two_more (option_to_list check) net) → MeetAll net own valves.old
+        → MeetAll (with_two_more (option_to_list check) net) (with_two_counts sets net.size own) valves.new }
+    ensures room { (n m : ℕ) → HasRoomFor valves.old n m → HasRoomFor valves.new n m }
+{
+    let group = valves.len() as u32;
+    valves.push_fed(&[]);
+    push_alias(valves, AliasFeeders { check, group });
+    valves.reshape(group, 1, false);
+    valves.set_count(group, sets);
+}
+
+/// Seats the sets of a group at its valve, which is given as one more.
+fn seat_those(zones: &Zones, group: Group, told: u32, seats: &mut Vec<Seat>)
+    requires group { IsGroupNow zones.now.zones group }
+    requires slots { zones.now.slots ≤ length seats.old.items }
+    ensures seated { AreSeatedAt (members_of zones.now.zones group) told seats.old.items seats.new.items }
+    ensures size { length seats.new.items ≡ length seats.old.items }
+    ensures room { vec_capacity seats.new ≡ vec_capacity seats.old }
+{
+    zones.slots_within();
+    for i in 0..group.length {
+        put_seat(seats, zones.member(group, i).slot, told);
+    }
+}
+
+/// Seats the sets of a group at its valve, which is given as one more, and the set in another slot at the valve
+/// behind that. Slots may be behind all seats.
+pub fn seat_first(zones: &Zones, group: Group, slot: u32, told: u32, seats: &mut Vec<Seat>)
+    requires group { IsGroupNow zones.now.zones group }
+    requires slot { slot < zones.now.slots }
+    requires told { told < 2 ^ 32 - 1 }
+    requires room { zones.now.slots ≤ vec_capacity seats.old }
+    ensures seated { AreSeatedFirst slot (members_of zones.now.zones group) told seats.old.items seats.new.items }
+    ensures room { vec_capacity seats.new ≡ vec_capacity seats.old }
+{
+    grow_seats(seats, zones.slots());
+    seat_those(zones, group, told, seats);
+    put_own(seats, slot, told + 1);
+}
+
+/// Notes the sets of a group. It takes no memory.
+pub fn note_those(zones: &Zones, group: Group, members: &mut Vec<SetRef>)
+    requires group { IsGroupNow zones.now.zones group }
+    requires room { length members.old.items + group.length ≤ vec_capacity members.old }
+    ensures noted { members.new.items
+        ≡ members.old.items ++ refs_of group.zone (members_of zones.now.zones group) }
+    ensures room { vec_capacity members.new ≡ vec_capacity members.old }
+{
+    for i in 0..group.length {
+        members.push_reserved(zones.member(group, i));
+    }
+}
