@@ -39,9 +39,9 @@ use zone_table::{Group, Scratch, Zones};
 /// The most choices from group to group.
 const MOST: u8 = 17;
 
-/// Of a group of so many sets, as one of failover is, the first one is loaded before the choice, since
-/// mostly it is chosen.
-const FEW: usize = 2;
+/// Of a group of up to so many sets, as one of failover is, the first one is loaded before the choice,
+/// since mostly it is chosen.
+const HELD_FIRST: usize = 2;
 
 /// Chooses from a group, and where an alias is chosen from its target's group, and so on, 17 times
 /// at most.
@@ -145,7 +145,7 @@ pub fn descend_held<V: HealthView>(
     )
 }
 
-/// The same from a group of sets of this name. Where they are few, the first one is held.
+/// The same from a group of sets of this name. Of one set or two the first one is held.
 ///
 /// Of more sets mostly another one than the first is chosen, which then is the only one that is loaded:
 /// the name tells where their policies stand, and so the first set tells its own where it is.
@@ -179,15 +179,15 @@ pub fn descend_named<V: HealthView>(
     ensures seen { IsSeen tables.now client seen.new }
 {
     let at = place_behind(name);
-    let held = are_few(group);
+    let held = is_held_first(group);
     descend_on(
         MOST, zones, group, at, held, view, tables, client, words, choices, used, seen, scratch,
     )
 }
 
 /// Whether the first set of a group is told to answer alone: it is simple and has values. Then it is
-/// chosen by whatever word, and nothing is chosen behind it. Of a group of few sets it is held then, and
-/// nothing is told of larger ones, as no group of a simple set is.
+/// chosen by whatever word, and nothing is chosen behind it. Of one set or two the first one is held then, and
+/// nothing is told of larger groups, as no group of a simple set is.
 #[inline(always)]
 pub fn first_answers(zones: &Zones, group: Group, scratch: &mut Scratch) -> bool
     requires group { IsGroupNow zones.now.zones group }
@@ -198,7 +198,7 @@ pub fn first_answers(zones: &Zones, group: Group, scratch: &mut Scratch) -> bool
         × (scratch.new ≡ Some set) × HasSpelling set }
     ensures alone { IsTrue result → EndsWithFirst zones.now.zones group }
 {
-    if group.length > FEW {
+    if group.length > HELD_FIRST {
         return false;
     }
     load_member(zones, group, 0, scratch);
@@ -446,11 +446,11 @@ fn is_front_held(held: bool, picked: &Picked) -> bool
     held && picked.places[0] == 0
 }
 
-/// Whether a group has few sets, so that the first one is held before a choice.
-fn are_few(group: Group) -> bool
+/// Whether a group has one set or two, so that the first one is held before a choice.
+fn is_held_first(group: Group) -> bool
     ensures { IsTrue result → group.length ≤ 2 }
 {
-    group.length <= FEW
+    group.length <= HELD_FIRST
 }
 
 /// The place at which the policies of sets of this name stand: two octets behind it.

@@ -135,9 +135,10 @@ pub(crate) enum Walked {
     Full,
 }
 
-/// Whether the set at a place of a geolocation group, before which so many are noted, is chosen: none
-/// is noted, and it is a healthy one for the client's country, of which no subdivision is told. Where
-/// its identifier is long this isn't told here.
+/// Whether the set at a place of a geolocation group, before which so many are noted, is chosen where
+/// those in front of it that aren't noted are for other countries: none is noted, and it is a healthy
+/// one for the client's country, of which no subdivision is told. Where its identifier is long this
+/// isn't told here.
 #[inline(always)]
 fn settles_at<V: HealthView>(
     count: usize,

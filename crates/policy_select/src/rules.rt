@@ -1,8 +1,8 @@
 //! The policy by which is chosen from a group: that of its first set.
 //!
-//! It is told where it stands among the octets of the set, and its identifier isn't copied, which
-//! is most of a policy. What is long is read only by the choice that wants it: a region, and a
-//! policy of address blocks, which alone is copied whole.
+//! It is told where it stands among the octets of the set, and where two cells of these have all of it,
+//! its identifier isn't copied, which is most of a policy. What is long is read only by the choice that
+//! wants it: a region, and a policy of address blocks, which is copied whole always.
 
 ghost use Rattle.std.specs.Prelude.{◌≡◌, ◌<◌, ◌∷◌, [], ◌++◌, ℕ, IfSome, IsTrue, List, Some, slice_get, take};
 ghost use Rattle.answer_model.specs.Policies.{region_of};

@@ -35,8 +35,6 @@ pub enum Selected {
 }
 
 /// Chooses from a group of 1 to 100 sets by its policy.
-///
-/// The scratch holds the first set of the group then.
 pub fn select<V: HealthView>(
     zones: &Zones,
     group: Group,
@@ -134,7 +132,7 @@ pub(crate) fn choose<V: HealthView>(
             let (block, scope) = block_of(zones.collections(), id, client);
             used.blocks = used.blocks.max(scope);
             let set = choose_block(zones, group, view, &location, block, scratch);
-            load_member(zones, group, 0, scratch);
+            hold_again(zones, group, held, scratch);
             one_or_none(group, set)
         }
     }
@@ -151,6 +149,17 @@ fn hold_first(zones: &Zones, group: Group, held: bool, scratch: &mut Scratch)
         return;
     }
     load_member(zones, group, 0, scratch);
+}
+
+/// Holds the first set of a group again behind a choice, where it was held before, which is told.
+fn hold_again(zones: &Zones, group: Group, held: bool, scratch: &mut Scratch)
+    requires group { IsGroupNow zones.now.zones group }
+    requires some { 0 < group.length }
+    ensures { IsTrue held → scratch.new ≡ slice_get (sets_in zones.now.zones group) 0 }
+{
+    if held {
+        load_member(zones, group, 0, scratch);
+    }
 }
 
 /// One set of a group.

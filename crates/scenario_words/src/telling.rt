@@ -88,8 +88,9 @@ fn put_differences(sent: &[u8], reply: &[u8], into: &mut Vec<u8>) -> Result<(), 
     let flags = number_at(reply, 2);
     let end = question_end(reply);
     put_if(sent.get(..2) != reply.get(..2), b", another id", into)?;
+    put_if(flags / 256 % 2 == 0, b", no rd", into)?;
     put_if(
-        flags / 2048 != 16 || flags / 16 % 32 != 16,
+        flags / 2048 != 16 || flags / 16 % 16 != 0,
         b", other flags",
         into,
     )?;

@@ -9,7 +9,7 @@ descend_on-requires-clause-at g c = λ set there.
     ∙ sym c.place_behind-at.ensures
 
 pub descend_on-requires-clause-held : goal.descend_on-requires-clause-held
-descend_on-requires-clause-held g c = λ held. c.requires.held (c.are_few-held.ensures held)
+descend_on-requires-clause-held g c = λ held. c.requires.held (c.is_held_first-held.ensures held)
 
 pub returns-clause-gives : goal.returns-clause-gives
 unfolding descend
