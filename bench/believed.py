@@ -5,7 +5,8 @@ by file, with its lines.
     python3 bench/believed.py            a table of files, with the lines of the definitions that are reached and of the file
     python3 bench/believed.py --names    each file with the definitions that are reached
     python3 bench/believed.py --rest     the files of specs/ from which nothing is reached
-    python3 bench/believed.py --page     the table with a head, as docs/BELIEVED.md has it, and a second one of the kit's definitions
+    python3 bench/believed.py --forms    how much of them each form of the program takes, by what `FormLeaves` says of it
+    python3 bench/believed.py --page     the table with a head, as docs/BELIEVED.md has it, one by forms, and one of the kit's definitions
 
 It begins with the imports of `crates/r53_cli/src/program.rt` that the contract of `run` names, and with those that the traits of streams, disks and the
 network name in their clauses, which give what these tell its meaning (that of random words is a trait of the kit's `rand_core`). It goes on through the imports
@@ -19,6 +20,9 @@ import subprocess
 import sys
 
 TOP = os.path.dirname(os.path.dirname(os.path.abspath(__file__)))
+# what `FormLeaves` says of each form begins with these
+LEAVES = "r53_cli/specs/Sessions.antt"
+FORMS = [("run", ["Runs"]), ("dump", ["Dumps"]), ("init", ["InitRuns"]), ("once", ["OnceLeaves", "HasCause"]), ("drill", ["Drills"])]
 # the traits of what is handed in
 TRAITS = ["r53_io/src/streams.rt", "r53_io/src/network.rt", "r53_disk/src/disk.rt"]
 NAME = r"[^\s{},;:()\[\].=]+"
@@ -186,18 +190,42 @@ def reach(starts):
     return seen
 
 
+def lines_of(seen):
+    return sum(len(file_of(path).items[name]) for path, name in seen if is_ours(path))
+
+
+def of_traits():
+    starts = []
+    for path in TRAITS:
+        trait = read(f"{TOP}/crates/{path}")
+        words = set(re.findall(r"[\w']+", "".join(re.findall(r"^pub trait .*?^}", trait, re.M | re.S))))
+        starts += [places for name, places in imports(trait)[0].items() if name in words]
+    return starts
+
+
+def by_forms():
+    """Each form with the lines that it takes, those of the traits with them, and with those that no form before it takes."""
+    path = f"{TOP}/crates/{LEAVES}"
+    taken, rows = set(), []
+    for form, names in FORMS:
+        places = [(path, it) if it in file_of(path).items else file_of(path).names[it] for it in names]
+        seen = reach(places + of_traits())
+        rows.append((form, lines_of(seen), lines_of(seen - taken)))
+        taken |= seen
+    return rows
+
+
 def main():
+    if "--forms" in sys.argv:
+        for row in by_forms():
+            print(*row)
+        return
     text = read(f"{TOP}/crates/r53_cli/src/program.rt")
     begin = text.index("pub fn run<")
     contract = text[begin : text.index("\n{", begin)]
     names, _ = imports(text)
     words = set(re.findall(r"[\w']+", contract))
-    starts = [places for name, places in names.items() if name in words]
-    for path in TRAITS:
-        trait = read(f"{TOP}/crates/{path}")
-        words = set(re.findall(r"[\w']+", "".join(re.findall(r"^pub trait .*?^}", trait, re.M | re.S))))
-        starts += [places for name, places in imports(trait)[0].items() if name in words]
-    seen = reach(starts)
+    seen = reach([places for name, places in names.items() if name in words] + of_traits())
     files = {}
     for path, name in seen:
         files.setdefault(path, []).append(name)
@@ -227,6 +255,12 @@ def main():
         print("are reached and of the whole file. `bench/believed.py --page` makes this page; with `--names` it lists the definitions of each. Structs and enums of the code are named as types, and")
         print("not followed.\n")
     table([it for it in files if is_ours(it)], "File in `crates/`")
+    if "--page" in sys.argv:
+        print("\n## By form\n")
+        print("What the case of `FormLeaves` for each form reaches, with the traits: a reader of one form alone takes that. The rest are the shape of a form and the clauses on words of none.\n")
+        print("| Form | Lines reached | Of these, in none of the rows above |\n|---|---|---|")
+        for row in by_forms():
+            print("| `%s` | %d | %d |" % row)
     others = [it for it in files if not is_ours(it)]
     if others:
         print()
