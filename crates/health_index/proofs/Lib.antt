@@ -12,6 +12,7 @@ pub mod Fewer
 pub mod Kept
 pub mod Kindred
 pub mod Knowing
+pub mod Laid
 pub mod Numbering
 pub mod Ready
 pub mod Reporting

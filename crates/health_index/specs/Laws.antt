@@ -1,5 +1,5 @@
 -- What it is to stand for a configuration and reports.
-use Rattle.std.specs.Prelude.{◌≡◌, ◌↔◌, ◌⊎◌, ◌^◌, ℕ, false, true, List, None, Some}
+use Rattle.std.specs.Prelude.{◌≡◌, ◌≤◌, ◌<◌, ◌↔◌, ◌⊎◌, ◌^◌, ℕ, false, true, List, None, Some, length}
 use Rattle.check_model.specs.Checks.{Checks}
 use Rattle.check_model.specs.Checks.{IsSound as AreSoundChecks}
 use Rattle.check_model.specs.Commands.{checks_after}
@@ -20,7 +20,7 @@ use Rattle.record_set.specs.declared.sets.RecordSet.{RecordSet}
 use Rattle.zone_model.specs.Slotted.{IsHere, Slotted}
 use Rattle.health_model.specs.Sound.{IsSound}
 use Rattle.health_planning.specs.Later.{AreLater}
-use Rattle.health_planning.specs.Wired.{IsLedTo, is_watched, watched_of}
+use Rattle.health_planning.specs.Wired.{IsLedTo, group_seat, is_watched, set_seat, watched_of}
 use Rattle.health_index.specs.Following.{IsOpenTo, IsWay}
 use Rattle.health_index.specs.declared.following.Way.{Way}
 use Rattle.health_index.specs.declared.following.Way.TheVariants as way
@@ -28,6 +28,7 @@ use Rattle.health_index.specs.Index.{AreNumbered, Index, IsEndpoint, IsEndpointO
 use Rattle.health_index.specs.Kin.{kin_of}
 use Rattle.health_index.specs.Founding.{ComesFirst}
 use Rattle.health_index.specs.Leading.{ComesToLead}
+use Rattle.health_index.specs.Room.{HasRoom, HasRoomForAlias, HasRoomForFirst, IsLaidAnew}
 use Rattle.health_index.specs.Regrouping.{HasCome, HasGone, JoinsGroup, LeavesGroup, TellNoOther}
 use Rattle.health_index.specs.Unleading.{LeavesValve}
 use Rattle.health_index.specs.Values.{AreValues, MeetsIn}
@@ -144,3 +145,18 @@ FirstCanCome = (before after : List Zone) (checks : Checks) (reports : List Repo
     → is_watched p.set ≡ false)
     → (members : List Slotted) × ((feeders : List ℕ)
     × ComesFirst after index.ids index.numbers index.seats index.valves ref members feeders)
+
+-- There is room for one set more to be noted or listed, and for a valve of its own; and for one of its target group and
+-- so many sets of that.
+pub record HasRoomForMore (index : Index) (slots : ℕ) : Type 0 where
+  pub noted : length index.members < index.space.members
+  pub alias : HasRoomForAlias index slots
+  pub first : (sets : ℕ) → sets ≤ slots → HasRoomForFirst index sets slots
+
+-- Where all was laid out at once for zones, an index with room over so many slots, as these have too, has that for a set
+-- that comes into a slot whose seat tells nothing.
+abbrev pub AliasesHaveRoom : Type 0
+AliasesHaveRoom = (before : List Zone) (index : Index) (slots : ℕ) (ref : SetRef)
+    → IsLaidAnew before index → HaveSlotsBelow before slots → HasRoom index slots → ref.slot < slots
+    → set_seat index.seats ref.slot ≡ 0 → group_seat index.seats ref.slot ≡ 0
+    → HasRoomForMore index slots

@@ -1,9 +1,13 @@
 -- Room in which a configuration is laid out anew, without memory.
-use Rattle.std.specs.Prelude.{◌≡◌, ◌≤◌, ◌<◌, ◌+◌, ◌*◌, ◌^◌, ℕ, length}
+use Rattle.std.specs.Prelude.{◌≡◌, ◌≢◌, ◌≤◌, ◌<◌, ◌+◌, ◌*◌, ◌^◌, ◌⊎◌, ℕ, suc, List, Some, length, slice_get}
 use Rattle.health_valves.specs.Valves.{size_of, value_of}
 use Rattle.health_valves.specs.Laying.{HasRoomFor, links_of}
 use Rattle.health_valves.specs.declared.valves.Valves.{Valves}
 use Rattle.health_index.specs.Index.{Index}
+use Rattle.health_planning.specs.Building.{AreGiven, HoldsSet}
+use Rattle.health_planning.specs.SetRefRecord.{SetRef}
+use Rattle.health_planning.specs.Wired.{group_seat, seat_of}
+use Rattle.health_planning.specs.Zones.{Zone}
 
 -- An index can be laid out anew over so many slots: 200 checks of at most 255 children, which are kept by
 -- two numbers more each, a valve for each set and for each group, one link into a group and two into a set.
@@ -45,7 +49,7 @@ pub record HasRoomForFirst (index : Index) (sets slots : ℕ) : Type 0 where
   pub valves : HasValveRoomForTwo index.valves slots
 
 -- Only room changes: checks, their valves, what their checkers saw, their children, seats, listed sets, noted
--- members and values stay.
+-- members and values stay, and so does how many valves and links there are.
 pub record Keeps (before after : Index) : Type 0 where
   pub ids : after.ids ≡ before.ids
   pub numbers : after.numbers ≡ before.numbers
@@ -55,3 +59,42 @@ pub record Keeps (before after : Index) : Type 0 where
   pub refs : after.refs ≡ before.refs
   pub members : after.members ≡ before.members
   pub values : (valve : ℕ) → value_of after.valves valve ≡ value_of before.valves valve
+  pub size : size_of after.valves ≡ size_of before.valves
+  pub links : links_of after.valves ≡ links_of before.valves
+
+-- ---- how much there is
+
+-- Sets stand in the slots of some references, no two of which are the same.
+pub record AreApart (zones : List Zone) (refs : List SetRef) : Type 0 where
+  pub here : (k : ℕ) (ref : SetRef) → slice_get refs k ≡ Some ref → HoldsSet zones ref.slot
+  pub once : (k n : ℕ) (one other : SetRef) → slice_get refs k ≡ Some one
+      → slice_get refs n ≡ Some other → one.slot ≡ other.slot → k ≡ n
+
+-- What there is where all was laid out at once, and nothing is left over: the listed sets are those with valves of
+-- their own, and the noted ones those whose groups have valves, each of them once. Each valve behind those of 200
+-- checks is told by a seat. A listed set has three links at most, one into its group's valve and two into its own.
+pub record IsLaidAnew (zones : List Zone) (index : Index) : Type 0 where
+  pub listed : AreApart zones index.refs
+  pub own : (k : ℕ) (ref : SetRef) → slice_get index.refs k ≡ Some ref
+      → seat_of index.seats ref.slot ≢ 0
+  pub noted : AreApart zones index.members
+  pub grouped : (k : ℕ) (ref : SetRef) → slice_get index.members k ≡ Some ref
+      → group_seat index.seats ref.slot ≢ 0
+  pub given : AreGiven index.refs index.members index.seats
+  pub told : (valve : ℕ) → 200 ≤ valve → valve < size_of index.valves → (slot : ℕ)
+      × ((seat_of index.seats slot ≡ suc valve) ⊎ (group_seat index.seats slot ≡ suc valve))
+  pub links : links_of index.valves ≤ length index.refs * 3 + 51200
+
+-- As many sets are listed and noted as were, and as many valves and links are there.
+pub record HasAsMuch (before after : Index) : Type 0 where
+  pub refs : length after.refs ≡ length before.refs
+  pub members : length after.members ≡ length before.members
+  pub valves : size_of after.valves ≡ size_of before.valves
+  pub links : links_of after.valves ≡ links_of before.valves
+
+-- Little more is there than was: one listed set, two valves and two links at most, and so many noted sets.
+pub record AddsFew (sets : ℕ) (before after : Index) : Type 0 where
+  pub refs : length after.refs ≤ length before.refs + 1
+  pub members : length after.members ≤ length before.members + sets
+  pub valves : size_of after.valves ≤ size_of before.valves + 2
+  pub links : links_of after.valves ≤ links_of before.valves + 2

@@ -4,6 +4,7 @@
 ghost use Rattle.std.specs.Prelude.{◌≡◌, ◌≢◌, ◌≤◌, ◌<◌, ◌↔◌, ℕ, IsTrue, Some, length, slice_get};
 ghost use Rattle.check_model.specs.Checks.{IsBounded};
 ghost use Rattle.check_model.specs.declared.checks.Check.{Check};
+ghost use Rattle.health_valves.specs.Laying.{links_of};
 ghost use Rattle.health_valves.specs.Pass.{IsIdle};
 ghost use Rattle.health_valves.specs.Valves.{IsReady, Net, ValvesStandFor, size_of};
 ghost use Rattle.health_index.specs.Following.{AreSame, HaveIds, HaveIdsBehind};
@@ -143,6 +144,8 @@ pub fn reshape_checks(valves: &mut Valves, list: &[(u32, Check)], numbers: &[u32
     ensures reshaped { (net : Net) (own : ℕ → ℕ) → ValvesStandFor net own valves.old
         → Reshapes list.now numbers.now (length list.now) net own valves.old valves.new }
     ensures idle { IsIdle valves.new }
+    ensures size { size_of valves.new ≡ size_of valves.old }
+    ensures links { links_of valves.new ≡ links_of valves.old }
 {
     for (place, held) in list.iter().enumerate() {
         let check = &held.1;

@@ -1,10 +1,11 @@
 //! The index: what is asked of it, and how it takes a report.
 
 ghost use Rattle.std.specs.Prelude.{◌≡◌, ◌≢◌, ◌≤◌, ◌<◌, ◌+◌, ◌∷◌, ◌↔◌, [], ℕ, IsTrue, List, false, true};
-ghost use Rattle.std.specs.Prelude.{Contains, IfOk, IsOk, OnOk, if◌then◌else◌, length};
+ghost use Rattle.std.specs.Prelude.{◌⊎◌, Contains, IfOk, IsOk, OnOk, if◌then◌else◌, length};
 ghost use Rattle.check_model.specs.Checks.{Checks};
 ghost use Rattle.check_model.specs.Checks.{IsSound as AreSoundChecks};
 ghost use Rattle.health_planning.specs.Later.{AreLater};
+ghost use Rattle.health_valves.specs.Laying.{links_of};
 ghost use Rattle.health_valves.specs.Valves.{Feeds, HasEnds, IsReady, ValvesStandFor, MeetsEquation, Net};
 ghost use Rattle.health_valves.specs.Valves.{size_of, value_of};
 ghost use Rattle.health_valves.specs.Pass.{IsIdle};
@@ -22,7 +23,8 @@ ghost use Rattle.health_index.specs.Leading.{ComesToLead, GetsValve};
 ghost use Rattle.health_index.specs.Leaving.{AreLeft, KeepsValves, Moves, SparesValves};
 ghost use Rattle.health_index.specs.Regrouping.{HasCome, HasGone, Joins, JoinsGroup, Leaves};
 ghost use Rattle.health_index.specs.Regrouping.{LeavesGroup, TellNoOther};
-ghost use Rattle.health_index.specs.Room.{HasRoom, HasRoomForAlias, HasRoomForFirst, Keeps};
+ghost use Rattle.health_index.specs.Room.{AddsFew, HasAsMuch, HasRoom, HasRoomForAlias, HasRoomForFirst};
+ghost use Rattle.health_index.specs.Room.{IsLaidAnew, Keeps};
 ghost use Rattle.health_index.specs.Unleading.{LeavesValve, Unleads};
 ghost use Rattle.health_index.specs.Values.{WorksOut};
 ghost use Rattle.health_planning.specs.Wired.{group_seat, is_watched, watched_of};
@@ -48,7 +50,7 @@ use crate::taking::take_result;
 use crate::valve_numbers::{asks_all, has_number, keep_numbers, spare_number};
 use checker_state::{CHECKERS, Checkers, fifty_alone};
 use health_check::CheckTable;
-use health_model::{one_health, one_more_report, paths_end};
+use health_model::{one_more_report, paths_end};
 use health_planning::{
     Delta, HealthView, MOST_CHECKS, Scratch, Seat, SetRef, Zones, list_ids, list_seen, number_at,
     place_near, plan_valves, seat_anew, seat_beside, views_agree,
@@ -157,6 +159,7 @@ impl HealthIndex {
         requires sound { IsSound (watched_of zones.now.zones checks.now.checks) }
         ensures stands { IfOk result (λ index.
             StandsFor zones.now.zones checks.now.checks [] index) }
+        ensures laid { IfOk result (λ index. IsLaidAnew zones.now.zones index) }
     {
         let Ok(scratch) = Scratch::new(alloc) else {
             return Err(OutOfMemory);
@@ -254,6 +257,9 @@ impl HealthIndex {
             → StandsFor before old reports self.old
             → AreLeft before old zones.now.zones checks.now.checks delta.now
             → StandsFor zones.now.zones checks.now.checks reports self.new }
+
+        // All is laid out anew, and nothing is left over; or little more is there than was.
+        ensures grows { IsLaidAnew zones.now.zones self.new ⊎ AddsFew zones.now.slots self.old self.new }
 
         // Where the sets that went and came are of this kind, the index stays as it is.
         ensures same { KeepsValves zones.now.zones self.old.ids self.old.numbers self.old.seats
@@ -383,6 +389,7 @@ impl HealthIndex {
             → AreLeft before old zones.now.zones checks.now.checks delta.now → result ≡ true
             → StandsFor zones.now.zones checks.now.checks reports self.new }
         ensures zone { result ≡ true → delta.now.zone ≢ 0 }
+        ensures adds { AddsFew zones.now.slots self.old self.new }
         ensures stays { result ≡ false → self.new ≡ self.old }
         ensures left { (ref : SetRef) (valve : ℕ) → HasGone delta.now ref
             → LeavesGroup zones.now.zones self.old.seats self.old.valves ref valve
@@ -432,6 +439,7 @@ impl HealthIndex {
             → StandsFor before old reports self.old
             → AreLeft before old zones.now.zones checks.now.checks delta.now → result ≡ true
             → StandsFor zones.now.zones checks.now.checks reports self.new }
+        ensures adds { AddsFew zones.now.slots self.old self.new }
         ensures stays { result ≡ false → self.new ≡ self.old }
         ensures group { result ≡ true → group_seat self.old.seats set.slot ≢ 0 }
         ensures left { (valve : ℕ)
@@ -457,6 +465,7 @@ impl HealthIndex {
             → StandsFor before old reports self.old
             → AreLeft before old zones.now.zones checks.now.checks delta.now → result ≡ true
             → StandsFor zones.now.zones checks.now.checks reports self.new }
+        ensures adds { AddsFew zones.now.slots self.old self.new }
         ensures stays { result ≡ false → self.new ≡ self.old }
         ensures unled { (valve : ℕ)
             → LeavesValve zones.now.zones self.old.seats self.old.valves set valve
@@ -481,6 +490,7 @@ impl HealthIndex {
             → StandsFor before old reports self.old
             → AreLeft before old zones.now.zones checks.now.checks delta.now → result ≡ true
             → StandsFor zones.now.zones checks.now.checks reports self.new }
+        ensures adds { AddsFew zones.now.slots self.old self.new }
         ensures stays { result ≡ false → self.new ≡ self.old }
         ensures off { result ≡ true → (named : RecordSet) → RefersTo zones.now.zones set named
             → is_watched named ≡ false }
@@ -519,6 +529,7 @@ impl HealthIndex {
             → StandsFor before old reports self.old
             → AreLeft before old zones.now.zones checks.now.checks delta.now → result ≡ true
             → StandsFor zones.now.zones checks.now.checks reports self.new }
+        ensures adds { AddsFew zones.now.slots self.old self.new }
         ensures stays { result ≡ false → self.new ≡ self.old }
         ensures comes { result ≡ true → (feeders : List ℕ) × ComesToLead zones.now.zones self.old.ids self.old.numbers
             self.old.seats self.old.valves set feeders }
@@ -565,6 +576,7 @@ impl HealthIndex {
             → StandsFor before old reports self.old
             → AreLeft before old zones.now.zones checks.now.checks delta.now → result ≡ true
             → StandsFor zones.now.zones checks.now.checks reports self.new }
+        ensures adds { AddsFew zones.now.slots self.old self.new }
         ensures stays { result ≡ false → self.new ≡ self.old }
         ensures founded { (members : List Slotted) (feeders : List ℕ)
             → ComesFirst zones.now.zones self.old.ids self.old.numbers self.old.seats self.old.valves alias members feeders
@@ -615,6 +627,7 @@ impl HealthIndex {
             → StandsFor zones old reports self.old → AreLater old checks.now.checks
             → IsSound (watched_of zones checks.now.checks) → result ≡ true
             → StandsFor zones checks.now.checks reports self.new }
+        ensures as_much { HasAsMuch self.old self.new }
         ensures stays { result ≡ false → self.new ≡ self.old }
         ensures in_place { (way : Way) → delta.now.zone ≡ 0 → self.old.kin ≡ kin_of checks.now.checks.list
             → IsWay self.old.ids checks.now.checks.list way
@@ -646,6 +659,7 @@ impl HealthIndex {
             → IsSound (watched_of zones checks.now.checks) → result ≡ true
             → IsFollowed zones checks.now.checks reports self.new }
         ensures as_many { result ≡ true → length self.new.ids ≡ length checks.now.checks.list }
+        ensures as_much { HasAsMuch self.old self.new }
         ensures stays { result ≡ false → self.new ≡ self.old }
         ensures in_place { (way : Way) → IsWay self.old.ids checks.now.checks.list way
             → IsOpenTo way checks.now.checks.list self.old
@@ -673,6 +687,7 @@ impl HealthIndex {
         ensures followed { (zones : List Zone) (old : Checks) (reports : List Report)
             → StandsFor zones old reports self.old → AreLater old checks.now.checks
             → result ≡ true → IsFollowed zones checks.now.checks reports self.new }
+        ensures as_much { HasAsMuch self.old self.new }
         ensures stays { result ≡ false → self.new ≡ self.old }
         ensures ready { 200 ≤ size_of self.old.valves
             → IsEndpointAt checks.now.checks.list (length self.old.ids) → result ≡ true }
@@ -707,6 +722,7 @@ impl HealthIndex {
             → StandsFor zones old reports self.old → AreLater old checks.now.checks
             → IsSound (watched_of zones checks.now.checks) → result ≡ true
             → IsFollowed zones checks.now.checks reports self.new }
+        ensures as_much { HasAsMuch self.old self.new }
         ensures stays { result ≡ false → self.new ≡ self.old }
         ensures ready { HasCheckers self.old.seen gone → result ≡ true }
         ensures follows { result ≡ true
@@ -730,6 +746,7 @@ impl HealthIndex {
             → IsFollowed zones checks.now.checks reports self.old
             → IsSound (watched_of zones checks.now.checks)
             → StandsFor zones checks.now.checks reports self.new }
+        ensures as_much { HasAsMuch self.old self.new }
         ensures rest { self.new ≡ record self.old { valves = self.new.valves } }
     {
         reshape_checks(&mut self.valves, checks.as_slice(), &self.numbers);
@@ -756,6 +773,7 @@ impl HealthIndex {
             → StandsFor before old reports self.old → AreLater old checks.now.checks
             → Moves before zones.now.zones gone.now came.now
             → StandsFor zones.now.zones checks.now.checks reports self.new }
+        ensures laid { IsLaidAnew zones.now.zones self.new }
     {
         zones.well_formed();
         zones.slots_apart();
@@ -827,6 +845,11 @@ impl HealthIndex {
         ensures other { (zones : List Zone) (checks : Checks) (reports : List Report)
             → StandsFor zones checks reports self.old → (IsEndpointOf checks id → ⊥)
             → (self.new ≡ self.old) × (result ≡ false) × (steps.new ≡ steps.old) }
+
+        // No seat changes, and there is as much as was.
+        ensures rest { self.new ≡ record self.old { seen = self.new.seen; valves = self.new.valves } }
+        ensures size { size_of self.new.valves ≡ size_of self.old.valves }
+        ensures links { links_of self.new.valves ≡ links_of self.old.valves }
     {
         index_tells_health();
         one_more_report();
@@ -884,6 +907,8 @@ impl HealthIndex {
             ↔ (value_of self.new.valves node ≢ value_of self.old.valves node) }
 
         ensures rest { self.new ≡ record self.old { valves = self.new.valves } }
+        ensures size { size_of self.new.valves ≡ size_of self.old.valves }
+        ensures links { links_of self.new.valves ≡ links_of self.old.valves }
         ensures fits { (net : Net) (own : ℕ → ℕ) → ValvesStandFor net own self.old.valves
             → ValvesStandFor net own self.new.valves }
         ensures idle { IsIdle self.new.valves }

@@ -1,8 +1,8 @@
 //! Laws over the definitions. Each stands as the contract of a function that does nothing.
 
-ghost use Rattle.health_index.specs.Laws.{AliasesCanCome, AliasesCanLeave, ChecksAreLater, IndexTells};
+ghost use Rattle.health_index.specs.Laws.{AliasesCanCome, AliasesCanLeave, AliasesHaveRoom, ChecksAreLater};
 ghost use Rattle.health_index.specs.Laws.{ChecksCanFollow, CommandsCanFollow, NodesAreNumbered, NodesHaveValues};
-ghost use Rattle.health_index.specs.Laws.{FirstCanCome, SetsCanJoin, SetsCanLeave, StandsWhereAllMeet};
+ghost use Rattle.health_index.specs.Laws.{FirstCanCome, IndexTells, SetsCanJoin, SetsCanLeave, StandsWhereAllMeet};
 
 use health_model::one_health;
 use health_planning::views_agree;
@@ -66,4 +66,11 @@ pub fn aliases_can_come()
 /// leads where it leads, and nothing decides any set there, the index has what it wants to give both a valve in place.
 pub fn first_can_come()
     ensures { FirstCanCome }
+{}
+
+/// Where all was laid out at once, as `rebuild` does and `on_command` where nothing else is said of it, and an index has
+/// room over all slots, it has what it wants to note or to list one set more, and to give it a valve, and its target group
+/// one too.
+pub fn aliases_have_room()
+    ensures { AliasesHaveRoom }
 {}

@@ -27,6 +27,6 @@ pub use following::Way;
 pub use health_valves::Steps;
 pub use index::HealthIndex;
 pub use laws::{
-    aliases_can_come, aliases_can_leave, checks_are_later, checks_can_follow, first_can_come,
-    index_tells_health, nodes_are_numbered, nodes_have_values, sets_can_regroup,
+    aliases_can_come, aliases_can_leave, aliases_have_room, checks_are_later, checks_can_follow,
+    first_can_come, index_tells_health, nodes_are_numbered, nodes_have_values, sets_can_regroup,
 };

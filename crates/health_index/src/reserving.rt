@@ -2,8 +2,8 @@
 
 ghost use Rattle.std.specs.Prelude.{◌≡◌, ◌≤◌, ◌<◌, ◌+◌, ◌*◌, ◌^◌, ◌↔◌, ℕ, IsOk, IsTrue, OnOk, length, vec_capacity};
 ghost use Rattle.health_index.specs.Room.{HasValveRoom, HasValveRoomForTwo};
-ghost use Rattle.health_valves.specs.Valves.{ValvesStandFor, Net};
-ghost use Rattle.health_valves.specs.Laying.{HasRoomFor};
+ghost use Rattle.health_valves.specs.Valves.{Net, ValvesStandFor, size_of};
+ghost use Rattle.health_valves.specs.Laying.{HasRoomFor, links_of};
 ghost use Rattle.health_valves.specs.Pass.{IsIdle, MeetAll};
 
 use checker_state::Checkers;
@@ -79,6 +79,8 @@ pub fn room_for_slots(
     ensures refs { refs.new.items ≡ refs.old.items }
     ensures members { members.new.items ≡ members.old.items }
     ensures values { valves.new.values.items ≡ valves.old.values.items }
+    ensures size { size_of valves.new ≡ size_of valves.old }
+    ensures links { links_of valves.new ≡ links_of valves.old }
     ensures stays { (net : Net) (own : ℕ → ℕ) → ValvesStandFor net own valves.old → ValvesStandFor net own valves.new }
     ensures meet { (net : Net) (own : ℕ → ℕ) → MeetAll net own valves.old
         → MeetAll net own valves.new }

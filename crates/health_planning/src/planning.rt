@@ -62,6 +62,7 @@ fn plan_all(
         → IsSmallAt blueprint.new.triggers valve }
     ensures few_valves { length blueprint.new.triggers ≤ zones.now.slots * 2 + 200 }
     ensures few_links { length blueprint.new.links ≤ zones.now.slots * 3 + 51200 }
+    ensures links_by_refs { length blueprint.new.links ≤ length refs.new.items * 3 + 51200 }
 {
     zones.well_formed();
     zones.slots_apart();
@@ -117,6 +118,7 @@ pub fn plan_valves(
     ensures ends { PathsEnd (Feeds (net_in blueprint.new)) 64 }
     ensures few_valves { length blueprint.new.triggers ≤ zones.now.slots * 2 + 200 }
     ensures few_links { length blueprint.new.links ≤ zones.now.slots * 3 + 51200 }
+    ensures links_by_refs { length blueprint.new.links ≤ length refs.new.items * 3 + 51200 }
 {
     zones.well_formed();
     zones.slots_apart();

@@ -1,14 +1,14 @@
 //! Commands by which one evaluated alias comes, of a group without a valve, while its target group has one: as
 //! another alias leads there. Its own valve stands behind all others, and feeds none.
 
-ghost use Rattle.std.specs.Prelude.{◌≡◌, ◌≤◌, ◌<◌, ◌↔◌, ℕ, All, IsTrue, List, None, Option, Some, length};
+ghost use Rattle.std.specs.Prelude.{◌≡◌, ◌≤◌, ◌<◌, ◌+◌, ◌↔◌, ℕ, All, IsTrue, List, None, Option, Some, length};
 ghost use Rattle.std.specs.Prelude.{vec_capacity};
 ghost use Rattle.health_standing.specs.Leading.{ComesToLead, HasItsCheck, IsSeatedOwn, IsTargetSeat};
 ghost use Rattle.health_standing.specs.Leading.{feeders_with, listed_in};
 ghost use Rattle.health_standing.specs.declared.alias_coming.AliasFeeders.{AliasFeeders};
 ghost use Rattle.health_planning.specs.Looking.{RefersTo};
 ghost use Rattle.health_planning.specs.Wired.{StandApart};
-ghost use Rattle.health_valves.specs.Laying.{HasRoomFor, HasRoomForOne};
+ghost use Rattle.health_valves.specs.Laying.{HasRoomFor, HasRoomForOne, links_of};
 ghost use Rattle.health_valves.specs.Pass.{IsIdle, MeetAll};
 ghost use Rattle.health_valves.specs.Valves.{IsReady, Net, ValvesStandFor, fed_condition, size_of};
 ghost use Rattle.health_valves.specs.Valves.{with_one_more, with_own};
@@ -145,6 +145,8 @@ pub fn push_alias(valves: &mut Valves, feeders: AliasFeeders)
     ensures idle { IsIdle valves.new }
     ensures meet { (net : Net) (own : ℕ → ℕ) → ValvesStandFor net own valves.old → MeetAll net own valves.old
         → MeetAll (with_one_more (fed_condition (listed_in feeders)) net) (with_own net.size 0 own) valves.new }
+    ensures size { size_of valves.new ≡ size_of valves.old + 1 }
+    ensures links { links_of valves.new ≤ links_of valves.old + 2 }
     ensures room { (n m : ℕ) → HasRoomFor valves.old n m → HasRoomFor valves.new n m }
 {
     match feeders.check {

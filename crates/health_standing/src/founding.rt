@@ -13,7 +13,7 @@ ghost use Rattle.health_planning.specs.Groups.{members_of};
 ghost use Rattle.health_planning.specs.GroupRecord.{Group};
 ghost use Rattle.health_planning.specs.Looking.{IsGroupNow, RefersTo};
 ghost use Rattle.health_planning.specs.Wired.{StandApart, valve_with};
-ghost use Rattle.health_valves.specs.Laying.{HasRoomFor};
+ghost use Rattle.health_valves.specs.Laying.{HasRoomFor, links_of};
 ghost use Rattle.health_valves.specs.Pass.{IsIdle, MeetAll};
 ghost use Rattle.health_valves.specs.Valves.{HasEnds, IsReady, Net, ValvesStandFor, size_of};
 ghost use Rattle.record_set.specs.declared.sets.RecordSet.{RecordSet};
@@ -191,6 +191,8 @@ pub fn push_first(valves: &mut Valves, check: Option<u32>, sets: u32)
     ensures meet { (net : Net) (own : ℕ → ℕ) → ValvesStandFor net own valves.old
         → HasEnds (with_two_more (option_to_list check) net) → MeetAll net own valves.old
         → MeetAll (with_two_more (option_to_list check) net) (with_two_counts sets net.size own) valves.new }
+    ensures size { size_of valves.new ≡ size_of valves.old + 2 }
+    ensures links { links_of valves.new ≤ links_of valves.old + 2 }
     ensures room { (n m : ℕ) → HasRoomFor valves.old n m → HasRoomFor valves.new n m }
 {
     let group = valves.len() as u32;

@@ -51,6 +51,7 @@ pub fn lay_links(feeds: &mut FeedLists, links: &[Feeding])
     requires room { length links.now ≤ feeds.old.room }
     ensures fed { (x y : ℕ) → times y (fed_by feeds.new x) ≡ times x (feeders_in links.now y) }
     ensures valves { length feeds.new.fed ≡ length feeds.old.fed }
+    ensures room { feeds.new.room + length links.now ≡ feeds.old.room }
     ensures most { feeds.new.most ≡ feeds.old.most }
     ensures valves_room { feeds.new.valves_room ≡ feeds.old.valves_room }
 {

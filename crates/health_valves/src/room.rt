@@ -22,6 +22,7 @@ pub fn make_feeds(feeds: &mut FeedLists, valves: usize, links: usize) -> Result<
     ensures room { OnOk result (links ≤ feeds.new.most) }
     ensures valves { OnOk result (valves ≤ feeds.new.valves_room + length feeds.new.fed) }
     ensures fed { feeds.new.fed ≡ feeds.old.fed }
+    ensures links { feeds.new.most + feeds.old.room ≡ feeds.old.most + feeds.new.room }
     ensures kept { feeds.old.most ≤ feeds.new.most }
     ensures valves_kept { feeds.old.valves_room ≤ feeds.new.valves_room }
     ensures ready { links ≤ feeds.old.most → valves ≤ feeds.old.valves_room + length feeds.old.fed → IsOk result }

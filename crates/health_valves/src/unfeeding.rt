@@ -1,6 +1,6 @@
 //! Feeds into a valve that go.
 
-ghost use Rattle.std.specs.Prelude.{◌≡◌, ◌≢◌, ◌<◌, ℕ, false, length, true};
+ghost use Rattle.std.specs.Prelude.{◌≡◌, ◌≢◌, ◌≤◌, ◌<◌, ℕ, false, length, true};
 ghost use Rattle.valve_feeds.specs.Feeds.{fed_by, feeders_of, times};
 
 use valve_feeds::FeedLists;
@@ -15,6 +15,7 @@ fn take_feeder(feeds: &mut FeedLists, valve: u32) -> bool
         → times y (fed_by feeds.new x) ≡ times y (fed_by feeds.old x) }
     ensures valves { length feeds.new.fed ≡ length feeds.old.fed }
     ensures most { feeds.new.most ≡ feeds.old.most }
+    ensures room { feeds.old.room ≤ feeds.new.room }
     ensures valves_room { feeds.new.valves_room ≡ feeds.old.valves_room }
 {
     // A valve is fed by others as often as they feed it.
@@ -33,6 +34,7 @@ pub fn take_feeders(feeds: &mut FeedLists, valve: u32)
         → times y (fed_by feeds.new x) ≡ times y (fed_by feeds.old x) }
     ensures valves { length feeds.new.fed ≡ length feeds.old.fed }
     ensures most { feeds.new.most ≡ feeds.old.most }
+    ensures room { feeds.old.room ≤ feeds.new.room }
     ensures valves_room { feeds.new.valves_room ≡ feeds.old.valves_room }
 {
     while take_feeder(feeds, valve) {}

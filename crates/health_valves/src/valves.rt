@@ -80,6 +80,8 @@ impl Valves {
             → MeetAll net own self.new }
         ensures idle { IsIdle self.old → IsIdle self.new }
         ensures values { self.new.values.items ≡ self.old.values.items }
+        ensures size { size_of self.new ≡ size_of self.old }
+        ensures links { links_of self.new ≡ links_of self.old }
     {
         let Ok(()) = make_room(&mut self.rows, valves) else {
             return Err(OutOfMemory);
@@ -113,6 +115,8 @@ impl Valves {
         ensures fits { ValvesStandFor (net_in blueprint.old) (own_in blueprint.old) self.new }
         ensures meet { MeetAll (net_in blueprint.old) (own_in blueprint.old) self.new }
         ensures idle { IsIdle self.new }
+        ensures size { size_of self.new ≡ length blueprint.old.triggers }
+        ensures laid_links { links_of self.new ≡ length blueprint.old.links }
         ensures kept { (n m : ℕ) → HasRoomFor self.old n m → HasRoomFor self.new n m }
         ensures triggers { blueprint.new.triggers ≡ blueprint.old.triggers }
         ensures links { length blueprint.new.links ≡ length blueprint.old.links }
@@ -136,6 +140,7 @@ impl Valves {
 
         ensures idle { IsIdle self.new }
         ensures size { size_of self.new ≡ length blueprint.now.triggers }
+        ensures links { links_of self.new ≡ length blueprint.now.links }
         ensures kept { (n m : ℕ) → HasRoomFor self.old n m → HasRoomFor self.new n m }
     {
         self.rows.clear();
@@ -167,6 +172,8 @@ impl Valves {
         ensures meet { (net : Net) (own : ℕ → ℕ) → ValvesStandFor net own self.old → HasEnds net
             → MeetAll net own self.new }
         ensures room { (n m : ℕ) → HasRoomFor self.old n m → HasRoomFor self.new n m }
+        ensures size { size_of self.new ≡ size_of self.old }
+        ensures links { links_of self.new ≡ links_of self.old }
     {
         let mut steps = Steps::<L>::new(blank);
         self.settle_all(&mut steps);
@@ -193,6 +200,8 @@ impl Valves {
         ensures tick { steps.new ≡ steps.old + 1 }
         ensures rest { FlipsOnly self.old self.new }
         ensures room { (n m : ℕ) → HasRoomFor self.old n m → HasRoomFor self.new n m }
+        ensures size { size_of self.new ≡ size_of self.old }
+        ensures links { links_of self.new ≡ links_of self.old }
     {
         steps.tick();
         let at = node as usize;
@@ -220,6 +229,8 @@ impl Valves {
         ensures fewer { result ≡ true → length self.new.cone.items < length self.old.cone.items }
         ensures end { result ≡ false → self.new.cone.items ≡ [] }
         ensures room { (n m : ℕ) → HasRoomFor self.old n m → HasRoomFor self.new n m }
+        ensures size { size_of self.new ≡ size_of self.old }
+        ensures links { links_of self.new ≡ links_of self.old }
     {
         let Some(valve) = self.cone.pop() else {
             return false;
@@ -241,6 +252,8 @@ impl Valves {
         ensures idle { IsIdle self.new }
         ensures cost { steps.new ≡ steps.old + length self.old.cone.items }
         ensures room { (n m : ℕ) → HasRoomFor self.old n m → HasRoomFor self.new n m }
+        ensures size { size_of self.new ≡ size_of self.old }
+        ensures links { links_of self.new ≡ links_of self.old }
     {
         while self.pass_one(steps) {}
     }
@@ -263,6 +276,8 @@ impl Valves {
         ensures cone { (net : Net) (own : ℕ → ℕ) → ValvesStandFor net own self.old
             → CostsCone net starts.now steps.old steps.new }
         ensures room { (n m : ℕ) → HasRoomFor self.old n m → HasRoomFor self.new n m }
+        ensures size { size_of self.new ≡ size_of self.old }
+        ensures links { links_of self.new ≡ links_of self.old }
     {
         list_cone(&self.feeds, &mut self.cone, &mut self.marks, starts);
         self.pass(steps);
@@ -279,6 +294,8 @@ impl Valves {
             → MeetAll net own self.new }
         ensures cost { steps.new ≤ steps.old + size_of self.old }
         ensures room { (n m : ℕ) → HasRoomFor self.old n m → HasRoomFor self.new n m }
+        ensures size { size_of self.new ≡ size_of self.old }
+        ensures links { links_of self.new ≡ links_of self.old }
     {
         list_all(&self.feeds, &mut self.cone, &mut self.marks);
         self.pass(steps);
@@ -377,6 +394,8 @@ impl Valves {
         ensures cone { result ≡ true → (net : Net) (own : ℕ → ℕ) → ValvesStandFor net own self.old
             → CostsCone net (valve ∷ []) steps.old steps.new }
         ensures room { (n m : ℕ) → HasRoomFor self.old n m → HasRoomFor self.new n m }
+        ensures size { size_of self.new ≡ size_of self.old }
+        ensures links { links_of self.new ≡ links_of self.old }
     {
         self.put_own(valve, count);
         let row = self.rows[valve as usize];
@@ -398,6 +417,8 @@ impl Valves {
             → ValvesStandFor net (with_own valve own before) self.new }
         ensures rest { self.new ≡ record self.old { counts = self.new.counts; owns = self.new.owns } }
         ensures room { (n m : ℕ) → HasRoomFor self.old n m → HasRoomFor self.new n m }
+        ensures size { size_of self.new ≡ size_of self.old }
+        ensures links { links_of self.new ≡ links_of self.old }
     {
         let at = valve as usize;
         let open = self.count(at) - self.own(at);
@@ -418,6 +439,8 @@ impl Valves {
             → MeetAll net own self.old
             → MeetAll (with_need valve need inverted net) own self.new }
         ensures room { (n m : ℕ) → HasRoomFor self.old n m → HasRoomFor self.new n m }
+        ensures size { size_of self.new ≡ size_of self.old }
+        ensures links { links_of self.new ≡ links_of self.old }
     {
         self.put_need(valve, need, inverted);
         let now = is_open(need, inverted, self.count(valve as usize));
@@ -437,6 +460,7 @@ impl Valves {
         ensures rest { self.new ≡ record self.old { rows = self.new.rows } }
         ensures size { size_of self.new ≡ size_of self.old }
         ensures room { (n m : ℕ) → HasRoomFor self.old n m → HasRoomFor self.new n m }
+        ensures links { links_of self.new ≡ links_of self.old }
     {
         self.rows[valve as usize] = ValveFeeds { need, inverted };
     }
@@ -454,6 +478,8 @@ impl Valves {
         ensures meet { (net : Net) (own : ℕ → ℕ) → ValvesStandFor net own self.old → HasEnds net
             → MeetAll net own self.old → MeetAll net (with_own valve count own) self.new }
         ensures room { (n m : ℕ) → HasRoomFor self.old n m → HasRoomFor self.new n m }
+        ensures size { size_of self.new ≡ size_of self.old }
+        ensures links { links_of self.new ≡ links_of self.old }
     {
         self.put_own(valve, count);
         let row = self.rows[valve as usize];
@@ -479,6 +505,8 @@ impl Valves {
             → MeetAll net own self.old
             → MeetAll (with_condition valve unfed_condition net) (with_own valve 0 own) self.new }
         ensures room { (n m : ℕ) → HasRoomFor self.old n m → HasRoomFor self.new n m }
+        ensures size { size_of self.new ≡ size_of self.old }
+        ensures links { links_of self.new ≤ links_of self.old }
     {
         self.cut(valve);
         if value_at(&self.values, valve as usize) {
@@ -501,6 +529,7 @@ impl Valves {
         } }
         ensures size { size_of self.new ≡ size_of self.old }
         ensures room { (n m : ℕ) → HasRoomFor self.old n m → HasRoomFor self.new n m }
+        ensures links { links_of self.new ≤ links_of self.old }
     {
         take_feeders(&mut self.feeds, valve);
         let at = valve as usize;
@@ -566,6 +595,8 @@ impl Valves {
         ensures mends { (net : Net) (own : ℕ → ℕ) → ValvesStandFor net own self.old → HasEnds net
             → MeetOutside net own (valve ∷ []) self.old → MeetAll net own self.new }
         ensures room { (n m : ℕ) → HasRoomFor self.old n m → HasRoomFor self.new n m }
+        ensures size { size_of self.new ≡ size_of self.old }
+        ensures links { links_of self.new ≡ links_of self.old }
     {
         let mut steps = Steps::<L>::new(blank);
         self.settle(&[valve], &mut steps);

@@ -1,4 +1,4 @@
-use Rattle.std.proofs.Common.{arith, refl}
+use Rattle.std.proofs.Common.{arith, refl, ◌∙◌}
 use Rattle.std.proofs.lemmas.Option.{slice_get_read}
 use Rattle.health_valves.proofs.Needs.{ends_alike}
 use Rattle.health_valves.specs.Valves.{with_need}
@@ -11,6 +11,8 @@ loop-place-init c = record {
   within = omega arith;
   reshaped = λ net own fits. none_yet c.args.list.now c.args.numbers.now net own c.args.valves.now fits;
   idle = c.requires.idle;
+  size = refl;
+  links = refl;
 }
 
 pub reshape-requires-clause-ready : goal.reshape-requires-clause-ready
@@ -57,4 +59,6 @@ loop-place-preserved c =
             meet = λ ends met. c.reshape.ensures.meet r.now own r.fits (ends_alike net r.now r.reshaped.feeders ends) (r.meet ends met);
           };
       idle = c.reshape.ensures.idle;
+      size = c.reshape.ensures.size ∙ i.size;
+      links = c.reshape.ensures.links ∙ i.links;
     }

@@ -646,8 +646,8 @@ returns-clause-few_valves c =
     let same = ap length c.join_sets.ensures.triggers in
     omega arith
 
-pub returns-clause-few_links : goal.returns-clause-few_links
-returns-clause-few_links c =
+pub returns-clause-links_by_refs : goal.returns-clause-links_by_refs
+returns-clause-links_by_refs c =
     let checks = c.args.checks.now.checks in
     let list = checks.list in
     let sound = c.as_slice-list.ensures.sound in
@@ -682,8 +682,6 @@ returns-clause-few_links c =
     (none_listed c.args.zones.now.zones c.args.zones.now.slots c.args.seats.now.items c.requires.no_seats 200 c.put_checks.new.blueprint.triggers (omega arith) added) in
     let is_listed = c.list_targets.ensures.listed 200 c.args.seats.now.items (c.list_asked.ensures.listed 200 c.args.seats.now.items start) in
     let listed_size = is_listed.size in
-    let listed_few = few_listed c.args.zones.now.zones 200 c.args.seats.now.items c.list_targets.new.refs.items c.list_targets.new.seats.items c.list_targets.new.blueprint.triggers
-    is_listed in
     let listed_seats = c.list_asked.ensures.size in
     let listed_valves = c.list_asked.ensures.kept.valves in
     let listed_links = c.list_asked.ensures.kept.links in
@@ -704,3 +702,18 @@ returns-clause-few_links c =
     let last = c.join_sets.ensures.few in
     let last_links = c.join_sets.ensures.kept.links in
     omega arith
+
+pub returns-clause-few_links : goal.returns-clause-few_links
+returns-clause-few_links c =
+    let links = returns-clause-links_by_refs c in
+    let long_seats = c.requires.no_seats.size in
+    let added = c.put_checks.ensures.size in
+    let start : HaveOwnValves c.args.zones.now.zones 200 c.args.seats.now.items c.args.refs.now.items c.args.seats.now.items c.join_checks.new.blueprint.triggers =
+    rw (c.requires.no_refs, c.join_checks.ensures.triggers)
+    (none_listed c.args.zones.now.zones c.args.zones.now.slots c.args.seats.now.items c.requires.no_seats 200 c.put_checks.new.blueprint.triggers (omega arith) added) in
+    let is_listed = c.list_targets.ensures.listed 200 c.args.seats.now.items (c.list_asked.ensures.listed 200 c.args.seats.now.items start) in
+    let listed_few = few_listed c.args.zones.now.zones 200 c.args.seats.now.items c.list_targets.new.refs.items c.list_targets.new.seats.items c.list_targets.new.blueprint.triggers
+    is_listed in
+    let listed_seats = c.list_asked.ensures.size in
+    let more_seats = c.list_targets.ensures.size in
+    omega (arith, links, long_seats, listed_few, listed_seats, more_seats)

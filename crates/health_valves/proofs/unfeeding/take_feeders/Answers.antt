@@ -1,4 +1,4 @@
-use Rattle.std.proofs.Common.{◌∙◌}
+use Rattle.std.proofs.Common.{arith, ◌∙◌}
 use Rattle.health_valves.proofs.unfeeding.take_feeders.Goals as goal
 
 pub loop-preserved : goal.loop-preserved
@@ -9,6 +9,7 @@ loop-preserved c =
       others = λ x y apart. t.others x y apart ∙ i.others x y apart;
       valves = t.valves ∙ i.valves;
       most = t.most ∙ i.most;
+      room = (let was = i.room in let now = t.room in omega (arith, was, now));
       valves_room = t.valves_room ∙ i.valves_room;
     }
 

@@ -8,6 +8,7 @@ use Rattle.health_planning.specs.Wired.{IsSpare}
 use Rattle.health_index.specs.Following.{AreMore, IsEndpointAt}
 use Rattle.health_index.specs.Index.{Index, StandsFor}
 use Rattle.health_index.specs.Kin.{kin_of}
+use Rattle.health_index.proofs.Laid.{as_much_by}
 use Rattle.health_index.proofs.index.HealthIndex.add_check.Goals as goal
 
 pub returns-then-not-is_endpoint-clause-ready : goal.returns-then-not-is_endpoint-clause-ready
@@ -127,3 +128,6 @@ returns-clause-follows c done =
         ),
       ),
     )
+
+pub returns-clause-as_much : goal.returns-clause-as_much
+returns-clause-as_much c = as_much_by _ _ _ c.self.view_is refl refl c.set_count.ensures.size c.set_count.ensures.links

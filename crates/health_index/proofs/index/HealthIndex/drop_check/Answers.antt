@@ -8,6 +8,7 @@ use Rattle.health_index.specs.Following.{AreFewer, HasCheckers}
 use Rattle.health_index.specs.Index.{Index, StandsFor}
 use Rattle.health_index.specs.Kin.{kin_of}
 use Rattle.health_planning.proofs.Numbers.{number_there}
+use Rattle.health_index.proofs.Laid.{as_much_by}
 use Rattle.health_index.proofs.index.HealthIndex.drop_check.Goals as goal
 
 pub has_checkers-requires : goal.has_checkers-requires
@@ -81,3 +82,6 @@ returns-clause-followed c zones old reports stands later sound done =
     (gone_alone _ w c.args.gone c.number_at-valve.result goes have numbered))
     c.reshape.new.self (c.reshape.ensures.fits was.net was.own was.fits)
     (c.reshape.ensures.meet was.net was.own was.fits was.ends was.meet) c.reshape.ensures.idle _)
+
+pub returns-clause-as_much : goal.returns-clause-as_much
+returns-clause-as_much c = as_much_by _ _ _ c.self.view_is refl refl c.reshape.ensures.size c.reshape.ensures.links

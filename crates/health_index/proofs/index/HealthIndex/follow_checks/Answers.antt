@@ -1,8 +1,9 @@
-use Rattle.std.proofs.Common.{◌≡◌, length, arith, sym, ◌∙◌}
+use Rattle.std.proofs.Common.{◌≡◌, length, arith, refl, sym, ◌∙◌}
 use mathlib.Core.Path.{subst}
 use Rattle.health_index.proofs.Reshaped.{finished, whole_reshaped}
 use Rattle.health_index.specs.Following.{IsFollowed}
 use Rattle.health_index.specs.Index.{Index}
+use Rattle.health_index.proofs.Laid.{as_much_by}
 use Rattle.health_index.proofs.index.HealthIndex.follow_checks.Goals as goal
 
 pub invariant_of-self : goal.invariant_of-self
@@ -30,3 +31,6 @@ returns-clause-stands c zones reports followed sound =
     let was = subst (IsFollowed zones c.args.checks.now.checks reports) (sym c.self.view_is) followed in
     finished zones c.args.checks.now.checks reports _ was c.as_slice.ensures.sound sound c.reshape_checks.new.valves
     (rw (list, c.deref.ensures.value) at c.reshape_checks.ensures.reshaped was.net was.own was.fits) c.reshape_checks.ensures.idle _
+
+pub returns-clause-as_much : goal.returns-clause-as_much
+returns-clause-as_much c = as_much_by _ _ _ c.self.view_is refl refl c.reshape_checks.ensures.size c.reshape_checks.ensures.links

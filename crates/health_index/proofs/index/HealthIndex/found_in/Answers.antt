@@ -1,4 +1,4 @@
-use Rattle.std.proofs.Common.{◌≡◌, ◌≤◌, ◌<◌, ◌+◌, ◌*◌, ◌^◌, ◌++◌, ◌∷◌, [], ℕ, suc, List, Some, length, arith, refl, ap, sym, ◌∙◌}
+use Rattle.std.proofs.Common.{◌≡◌, ◌≤◌, ◌<◌, ◌+◌, ◌*◌, ◌++◌, ◌∷◌, [], ℕ, suc, List, Some, length, length-append, arith, refl, ap, sym, ◌∙◌}
 use Rattle.std.specs.Option.{option_to_list}
 use Rattle.std.proofs.lemmas.Bool.{false≢true}
 use mathlib.Core.Path.{subst}
@@ -10,11 +10,14 @@ use Rattle.health_planning.proofs.ListedOnce.{slot_below}
 use Rattle.health_planning.proofs.Roomy.{members_few}
 use Rattle.health_planning.specs.Groups.{members_of}
 use Rattle.health_planning.specs.SetRefRecord.{SetRef}
-use Rattle.health_valves.specs.Laying.{HasRoomFor}
+use Rattle.health_valves.specs.Laying.{HasRoomFor, links_of}
 use Rattle.health_valves.specs.Pass.{MeetAll}
 use Rattle.health_valves.specs.Valves.{ValvesStandFor, size_of}
 use Rattle.health_valves.specs.declared.valves.Valves.{Valves}
 use Rattle.zone_model.specs.Slotted.{Slotted}
+use Rattle.health_index.proofs.Laid.{adds_by, adds_nothing}
+use Rattle.std.proofs.lemmas.List.{length-map}
+use Rattle.health_planning.specs.Changes.{ref_in}
 use Rattle.health_index.proofs.index.HealthIndex.found_in.Goals as goal
 
 some_same : {X : Type 0} {x y : X} → Some x ≡ Some y → x ≡ y
@@ -209,3 +212,32 @@ overflow_cast-first c =
     let long = (c.in-Some.ensures.group c.in-Some.first refl).1.1 in
     let below = members_few zones c.in-Some.first.group slots c.well_formed-2.ensures c.slots_within.ensures.within in
     omega (arith, few, long, below)
+
+pub returns-in_default-clause-adds : goal.returns-in_default-clause-adds
+returns-in_default-clause-adds c = adds_nothing _ _ _ c.self.view_is
+
+pub returns-then-len-capacity-clause-adds : goal.returns-then-len-capacity-clause-adds
+returns-then-len-capacity-clause-adds c = adds_nothing _ _ _ c.self.view_is
+
+pub returns-then-not-has_room_for-clause-adds : goal.returns-then-not-has_room_for-clause-adds
+returns-then-not-has_room_for-clause-adds c = adds_nothing _ _ _ c.self.view_is
+
+pub returns-then-not-has_room_for_two-clause-adds : goal.returns-then-not-has_room_for_two-clause-adds
+returns-then-not-has_room_for_two-clause-adds c = adds_nothing _ _ _ c.self.view_is
+
+pub returns-clause-adds : goal.returns-clause-adds
+returns-clause-adds c =
+    let zones = c.args.zones.now.zones in
+    let group = c.in-Some.first.group in
+    let size = c.push_first.ensures.size in
+    let links = c.push_first.ensures.links in
+    let more = ap (λ (l : List SetRef). length l) c.push_reserved.ensures.items ∙ length-append c.self.inside.refs.items (c.args.alias ∷ []) in
+    let noted = ap (λ (l : List SetRef). length l) c.note_those.ensures.noted
+    ∙ length-append c.self.inside.members.items (refs_of group.zone (members_of zones group)) in
+    let long = length-map (members_of zones group) (ref_in group.zone) in
+    let below = members_few zones group c.args.zones.now.slots c.well_formed-2.ensures c.slots_within.ensures.within in
+    let refs : length c.push_reserved.new.self.items ≤ length c.self.inside.refs.items + 1 = omega (arith, more) in
+    let members : length c.note_those.new.members.items ≤ length c.self.inside.members.items + c.args.zones.now.slots = omega (arith, noted, long, below) in
+    let valves : size_of c.push_first.new.valves ≤ size_of c.self.inside.valves + 2 = omega (arith, size) in
+    let few : links_of c.push_first.new.valves ≤ links_of c.self.inside.valves + 2 = omega (arith, links) in
+    adds_by _ _ _ _ c.self.view_is refs members valves few

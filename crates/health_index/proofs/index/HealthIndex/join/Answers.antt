@@ -1,4 +1,4 @@
-use Rattle.std.proofs.Common.{◌≡◌, ◌<◌, ◌+◌, ◌-◌, ◌++◌, ◌∷◌, [], ℕ, suc, List, Some, length, arith, refl, ap, sym, ◌∙◌}
+use Rattle.std.proofs.Common.{◌≡◌, ◌≤◌, ◌<◌, ◌+◌, ◌-◌, ◌++◌, ◌∷◌, [], ℕ, suc, List, Some, length, length-append, arith, refl, ap, sym, ◌∙◌}
 use mathlib.Core.Path.{subst}
 use Rattle.health_index.proofs.ByOne.{index_regrouped, joined_by, recounts, whole_joined}
 use Rattle.health_index.specs.Index.{Index, StandsFor}
@@ -8,7 +8,9 @@ use Rattle.health_planning.proofs.Members.{one_named}
 use Rattle.health_planning.specs.SetRefRecord.{SetRef}
 use Rattle.health_planning.specs.Wired.{is_watched}
 use Rattle.health_planning.specs.declared.seats.Seat.{Seat}
-use Rattle.health_valves.specs.Valves.{ValvesStandFor, with_own}
+use Rattle.health_valves.specs.Valves.{ValvesStandFor, size_of, with_own}
+use Rattle.health_index.proofs.Laid.{adds_by, adds_nothing}
+use Rattle.health_valves.specs.Laying.{links_of}
 use Rattle.health_index.proofs.index.HealthIndex.join.Goals as goal
 
 some_same : {X : Type 0} {x y : X} → Some x ≡ Some y → x ≡ y
@@ -111,3 +113,23 @@ returns-clause-off c done named names =
     let zones = c.args.zones.now.zones in
     let j = (c.in-Some.ensures.found c.in-Some.told refl).1 in
     ap is_watched (one_named zones c.args.set named j.set c.well_formed-2.ensures names j.names) ∙ j.off
+
+pub returns-in_default-clause-adds : goal.returns-in_default-clause-adds
+returns-in_default-clause-adds c = adds_nothing _ _ _ c.self.view_is
+
+pub returns-then-len-capacity-clause-adds : goal.returns-then-len-capacity-clause-adds
+returns-then-len-capacity-clause-adds c = adds_nothing _ _ _ c.self.view_is
+
+pub returns-clause-adds : goal.returns-clause-adds
+returns-clause-adds c =
+    let zones = c.args.zones.now.zones in
+    let size = c.set_count.ensures.size in
+    let links = c.set_count.ensures.links in
+    let j = (c.in-Some.ensures.found c.in-Some.told refl).1 in
+    let below = slot_below zones c.args.zones.now.slots c.args.set j.set c.slots_within.ensures.within j.names in
+    let more = ap (λ (l : List SetRef). length l) c.push_reserved.ensures.items ∙ length-append c.self.inside.members.items (c.args.set ∷ []) in
+    let refs : length c.self.inside.refs.items ≤ length c.self.inside.refs.items + 1 = omega arith in
+    let members : length c.push_reserved.new.self.items ≤ length c.self.inside.members.items + c.args.zones.now.slots = omega (arith, below, more) in
+    let valves : size_of c.set_count.new.self ≤ size_of c.self.inside.valves + 2 = omega (arith, size) in
+    let few : links_of c.set_count.new.self ≤ links_of c.self.inside.valves + 2 = omega (arith, links) in
+    adds_by _ _ _ _ c.self.view_is refs members valves few

@@ -13,6 +13,7 @@ use Rattle.health_planning.proofs.Built.{checks_there}
 use Rattle.health_index.specs.Kin.{kin_of}
 use Rattle.health_index.specs.Room.{HasRoom}
 use Rattle.health_planning.specs.Wired.{HaveValves, StandApart, ids_of}
+use Rattle.health_index.proofs.Laid.{laid_anew}
 use Rattle.health_index.proofs.Knowing.{each_follows, follows_nothing, knows_its, knows_nothing, no_checks, still_reports}
 use Rattle.health_planning.proofs.Places.{held_there, ids_apart, of_all}
 use Rattle.health_planning.proofs.Roomy.{room_for_fewer}
@@ -254,3 +255,9 @@ returns-clause-first c none whole_is =
     are
     (rw c.deref-9.ensures.value at c.plan_valves.ensures.checks [] (subst (AreSeen [] checks.list) (sym c.deref-10.ensures.value) are))
     c.plan_valves.ensures.ends c.lay_out.ensures.meet
+
+pub returns-clause-laid : goal.returns-clause-laid
+returns-clause-laid c =
+    laid_anew c.args.zones.now.zones _ c.args.checks.now.checks.list c.keep_numbers-kept.new.numbers.items _ _
+    (rw c.deref-9.ensures.value at c.plan_valves.ensures.built) c.plan_valves.ensures.given c.plan_valves.ensures.noted
+    c.lay_out.ensures.size c.lay_out.ensures.laid_links c.plan_valves.ensures.links_by_refs

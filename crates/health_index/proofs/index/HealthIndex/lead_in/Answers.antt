@@ -1,4 +1,4 @@
-use Rattle.std.proofs.Common.{◌≡◌, ◌<◌, ◌+◌, ◌*◌, ◌++◌, ◌∷◌, [], ℕ, suc, List, Some, length, arith, refl, ap, sym, ◌∙◌}
+use Rattle.std.proofs.Common.{◌≡◌, ◌≤◌, ◌<◌, ◌+◌, ◌*◌, ◌++◌, ◌∷◌, [], ℕ, suc, List, Some, length, length-append, arith, refl, ap, sym, ◌∙◌}
 use Rattle.std.proofs.lemmas.Bool.{false≢true}
 use mathlib.Core.Path.{subst}
 use Rattle.health_index.proofs.Led.{comes_by, index_led, led_by, whole_led}
@@ -7,9 +7,10 @@ use Rattle.health_index.specs.Leading.{ComesToLead, IsSeatedOwn, listed_in}
 use Rattle.health_index.specs.Room.{HasRoom, HasValveRoom}
 use Rattle.health_planning.proofs.ListedOnce.{slot_below}
 use Rattle.health_planning.specs.SetRefRecord.{SetRef}
-use Rattle.health_valves.specs.Laying.{HasRoomFor, HasRoomForOne}
+use Rattle.health_valves.specs.Laying.{HasRoomFor, HasRoomForOne, links_of}
 use Rattle.health_valves.specs.Valves.{ValvesStandFor, fed_condition, size_of, with_one_more, with_own}
 use Rattle.health_valves.specs.declared.valves.Valves.{Valves}
+use Rattle.health_index.proofs.Laid.{adds_by, adds_nothing}
 use Rattle.health_index.proofs.index.HealthIndex.lead_in.Goals as goal
 
 some_same : {X : Type 0} {x y : X} → Some x ≡ Some y → x ≡ y
@@ -132,3 +133,23 @@ returns-clause-comes c done =
     let comes = comes_by zones c.args.set (listed_in c.in-Some.feeders) c.deref.ensures.value c.deref-2.ensures.value c.deref-3.ensures.value refl
     (c.in-Some.ensures.found c.in-Some.feeders refl) in
     (listed_in c.in-Some.feeders, subst (λ (i : Index). ComesToLead zones i.ids i.numbers i.seats i.valves c.args.set (listed_in c.in-Some.feeders)) c.self.view_is comes)
+
+pub returns-in_default-clause-adds : goal.returns-in_default-clause-adds
+returns-in_default-clause-adds c = adds_nothing _ _ _ c.self.view_is
+
+pub returns-then-len-capacity-clause-adds : goal.returns-then-len-capacity-clause-adds
+returns-then-len-capacity-clause-adds c = adds_nothing _ _ _ c.self.view_is
+
+pub returns-then-not-has_room_for_one-clause-adds : goal.returns-then-not-has_room_for_one-clause-adds
+returns-then-not-has_room_for_one-clause-adds c = adds_nothing _ _ _ c.self.view_is
+
+pub returns-clause-adds : goal.returns-clause-adds
+returns-clause-adds c =
+    let size = c.push_alias.ensures.size in
+    let links = c.push_alias.ensures.links in
+    let more = ap (λ (l : List SetRef). length l) c.push_reserved.ensures.items ∙ length-append c.self.inside.refs.items (c.args.set ∷ []) in
+    let refs : length c.push_reserved.new.self.items ≤ length c.self.inside.refs.items + 1 = omega (arith, more) in
+    let members : length c.self.inside.members.items ≤ length c.self.inside.members.items + c.args.zones.now.slots = omega arith in
+    let valves : size_of c.push_alias.new.valves ≤ size_of c.self.inside.valves + 2 = omega (arith, size) in
+    let few : links_of c.push_alias.new.valves ≤ links_of c.self.inside.valves + 2 = omega (arith, links) in
+    adds_by _ _ _ _ c.self.view_is refs members valves few

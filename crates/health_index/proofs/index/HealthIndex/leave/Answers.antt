@@ -6,6 +6,7 @@ use Rattle.health_index.specs.Regrouping.{IsSeatedIn, LeavesGroup}
 use Rattle.health_planning.specs.Wired.{group_seat}
 use Rattle.health_planning.specs.declared.seats.Seat.{Seat}
 use Rattle.health_valves.specs.Valves.{ValvesStandFor, with_own}
+use Rattle.health_index.proofs.Laid.{adds_none, adds_nothing, as_much_by}
 use Rattle.health_index.proofs.index.HealthIndex.leave.Goals as goal
 
 some_same : {X : Type 0} {x y : X} → Some x ≡ Some y → x ≡ y
@@ -77,3 +78,10 @@ returns-clause-group c done none =
     let bare = ap (λ (i : Index). group_seat i.seats c.args.set.slot) c.self.view_is ∙ none in
     let its = ap (λ (l : List Seat). group_seat l c.args.set.slot) c.deref.ensures.value ∙ bare in
     omega (arith, told, its)
+
+pub returns-in_default-clause-adds : goal.returns-in_default-clause-adds
+returns-in_default-clause-adds c = adds_nothing _ _ _ refl
+
+pub returns-clause-adds : goal.returns-clause-adds
+returns-clause-adds c =
+    adds_none _ _ _ (as_much_by _ _ _ c.self.view_is refl refl c.set_count.ensures.size c.set_count.ensures.links)

@@ -1,4 +1,4 @@
-use Rattle.std.proofs.Common.{◌≡◌, ◌≤◌, ◌<◌, ℕ, suc, List, length, arith, ap, refl, sym, ◌∙◌}
+use Rattle.std.proofs.Common.{◌≡◌, ◌≤◌, ◌<◌, ℕ, suc, List, length, arith, ap, refl, sym, ◌∙◌, inl, inr}
 use Rattle.std.proofs.lemmas.Bool.{false≢true}
 use mathlib.Core.Path.{subst}
 use Rattle.health_index.proofs.ByOne.{joined_not_beside, joined_not_kept, left_not_beside, left_not_kept}
@@ -14,7 +14,7 @@ use Rattle.health_index.specs.Kin.{kin_of}
 use Rattle.health_index.specs.Founding.{ComesFirst, Founds}
 use Rattle.health_index.specs.Leading.{ComesToLead, GetsValve}
 use Rattle.health_index.specs.Regrouping.{Joins, JoinsGroup, Leaves, LeavesGroup, TellNoOther}
-use Rattle.health_index.specs.Room.{HasRoom, HasRoomForAlias, HasRoomForFirst}
+use Rattle.health_index.specs.Room.{AddsFew, HasRoom, HasRoomForAlias, HasRoomForFirst}
 use Rattle.health_index.specs.Unleading.{LeavesValve, Unleads}
 use Rattle.health_planning.specs.DeltaRecord.{Delta}
 use Rattle.health_planning.specs.Wired.{set_seat}
@@ -23,6 +23,7 @@ use Rattle.health_index.specs.Leaving.{KeepsValves, Moves, SparesValves}
 use Rattle.health_index.proofs.Beside.{seats_same}
 use Rattle.health_valves.specs.Valves.{size_of}
 use Rattle.health_valves.specs.declared.valves.Valves.{Valves}
+use Rattle.health_index.proofs.Laid.{adds_none, adds_nothing, adds_seats}
 use Rattle.health_index.proofs.index.HealthIndex.on_command.Goals as goal
 
 -- sets that keep the valves of an index keep those of one that is the same
@@ -348,3 +349,25 @@ leaves_valves-requires-clause-seated c slot valve at =
     let b = w.seated slot valve seat in
     let size = w.fits.laid.size in
     omega arith
+
+-- how much more there is
+pub returns-then-leaves_valves-clause-grows : goal.returns-then-leaves_valves-clause-grows
+returns-then-leaves_valves-clause-grows c = inr (adds_nothing _ _ _ c.self.view_is)
+
+pub returns-then-reseat-clause-grows : goal.returns-then-reseat-clause-grows
+returns-then-reseat-clause-grows c =
+    inr (adds_seats _ _ _ c.reseat.new.self.seats
+    (c.if-reseat.ensures.rest ∙ ap (λ (i : Index). record i { seats = c.reseat.new.self.seats }) c.self.view_is))
+
+pub returns-then-regroup-clause-grows : goal.returns-then-regroup-clause-grows
+returns-then-regroup-clause-grows c =
+    let same = c.if-reseat.ensures.stays refl ∙ c.self.view_is in
+    inr (subst (λ (i : Index). AddsFew c.args.zones.now.slots i c.regroup.new.self) same c.if-regroup.ensures.adds)
+
+pub returns-then-follow-clause-grows : goal.returns-then-follow-clause-grows
+returns-then-follow-clause-grows c =
+    let same = c.if-regroup.ensures.stays refl ∙ c.if-reseat.ensures.stays refl ∙ c.self.view_is in
+    inr (subst (λ (i : Index). AddsFew c.args.zones.now.slots i c.follow.new.self) same (adds_none _ _ _ c.if-follow.ensures.as_much))
+
+pub returns-clause-grows : goal.returns-clause-grows
+returns-clause-grows c = inl c.lay.ensures.laid

@@ -11,6 +11,8 @@ use Rattle.health_index.specs.Index.{Index, StandsFor}
 use Rattle.health_index.specs.Unleading.{LeavesValve, Unleads}
 use Rattle.health_planning.specs.Looking.{RefersTo}
 use Rattle.health_planning.specs.SetRefRecord.{SetRef}
+use Rattle.health_index.proofs.Laid.{adds_nothing}
+use Rattle.health_index.specs.Room.{AddsFew}
 use Rattle.health_index.proofs.index.HealthIndex.regroup.Goals as goal
 
 one_same : {x y : SetRef} → x ∷ [] ≡ y ∷ [] → x ≡ y
@@ -174,3 +176,19 @@ returns-in-Some-one_come-clause-founded c ref members feeders come comes room =
       subst (λ (i : Index). Founds ref members feeders i c.found_in.new.self) same
           (subst (λ (r : SetRef). Founds r members feeders c.lead_in.new.self c.found_in.new.self) one l.1),
     )
+
+pub returns-in-Some-clause-adds : goal.returns-in-Some-clause-adds
+returns-in-Some-clause-adds c =
+    subst (λ (i : Index). AddsFew c.args.zones.now.slots i c.unlead.new.self) (c.if-leave.ensures.stays refl) c.unlead.ensures.adds
+
+pub returns-then-lead_in-clause-adds : goal.returns-then-lead_in-clause-adds
+returns-then-lead_in-clause-adds c =
+    subst (λ (i : Index). AddsFew c.args.zones.now.slots i c.lead_in.new.self) (c.if-join.ensures.stays refl) c.if-lead_in.ensures.adds
+
+pub returns-in-Some-one_come-clause-adds : goal.returns-in-Some-one_come-clause-adds
+returns-in-Some-one_come-clause-adds c =
+    subst (λ (i : Index). AddsFew c.args.zones.now.slots i c.found_in.new.self)
+    (c.if-lead_in.ensures.stays refl ∙ c.if-join.ensures.stays refl) c.found_in.ensures.adds
+
+pub returns-clause-adds : goal.returns-clause-adds
+returns-clause-adds c = adds_nothing _ _ _ refl

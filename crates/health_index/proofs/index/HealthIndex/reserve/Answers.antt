@@ -19,6 +19,8 @@ invariant_of-self c =
       refs = slots.refs;
       members = slots.members;
       values = λ valve. ap (λ v. value_in v valve) slots.values;
+      size = slots.size;
+      links = slots.links;
     }) slots.stays slots.meet slots.idle c.self.invariant
 
 pub returns-clause-kept : goal.returns-clause-kept
@@ -56,6 +58,8 @@ returns-clause-stands c zones checks reports is =
       refs = slots.refs;
       members = slots.members;
       values = λ valve. ap (λ v. value_in v valve) slots.values;
+      size = slots.size;
+      links = slots.links;
     }) slots.stays slots.meet slots.idle zones checks reports (subst (StandsFor zones checks reports) (sym c.self.view_is) is)
 
 pub returns-clause-ready : goal.returns-clause-ready

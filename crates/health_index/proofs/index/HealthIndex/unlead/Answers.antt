@@ -1,4 +1,4 @@
-use Rattle.std.proofs.Common.{◌≡◌, ℕ, List, Some, refl, ap, sym, ◌∙◌}
+use Rattle.std.proofs.Common.{◌≡◌, ◌≤◌, ◌+◌, ℕ, List, Some, length, arith, refl, ap, sym, ◌∙◌}
 use mathlib.Core.Path.{subst}
 use Rattle.health_index.proofs.ByOne.{index_regrouped}
 use Rattle.health_index.proofs.Unled.{unled_by, whole_unled}
@@ -6,7 +6,9 @@ use Rattle.health_index.specs.Index.{Index, StandsFor}
 use Rattle.health_index.specs.Regrouping.{IsSeatedIn}
 use Rattle.health_index.specs.Unleading.{LeavesValve}
 use Rattle.health_planning.specs.declared.seats.Seat.{Seat}
-use Rattle.health_valves.specs.Valves.{ValvesStandFor, unfed_condition, with_condition, with_own}
+use Rattle.health_valves.specs.Valves.{ValvesStandFor, size_of, unfed_condition, with_condition, with_own}
+use Rattle.health_index.proofs.Laid.{adds_by, adds_nothing}
+use Rattle.health_valves.specs.Laying.{links_of}
 use Rattle.health_index.proofs.index.HealthIndex.unlead.Goals as goal
 
 some_same : {X : Type 0} {x y : X} → Some x ≡ Some y → x ≡ y
@@ -51,3 +53,16 @@ returns-clause-unled c valve leaves =
             (c.unfeed.ensures.fits net own (subst (λ (i : Index). ValvesStandFor net own i.valves) (sym c.self.view_is) fits));
       },
     )
+
+pub returns-in_default-clause-adds : goal.returns-in_default-clause-adds
+returns-in_default-clause-adds c = adds_nothing _ _ _ refl
+
+pub returns-clause-adds : goal.returns-clause-adds
+returns-clause-adds c =
+    let size = c.unfeed.ensures.size in
+    let links = c.unfeed.ensures.links in
+    let refs : length c.self.inside.refs.items ≤ length c.self.inside.refs.items + 1 = omega arith in
+    let members : length c.self.inside.members.items ≤ length c.self.inside.members.items + c.args.zones.now.slots = omega arith in
+    let valves : size_of c.unfeed.new.self ≤ size_of c.self.inside.valves + 2 = omega (arith, size) in
+    let few : links_of c.unfeed.new.self ≤ links_of c.self.inside.valves + 2 = omega (arith, links) in
+    adds_by _ _ _ _ c.self.view_is refs members valves few

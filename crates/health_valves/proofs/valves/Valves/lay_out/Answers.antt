@@ -1,4 +1,4 @@
-use Rattle.std.proofs.Common.{arith, ap, sym, length}
+use Rattle.std.proofs.Common.{arith, ap, sym, length, ◌∙◌}
 use Rattle.std.proofs.lemmas.List.Sorted.{length_permutation}
 use Rattle.health_valves.specs.Blueprint.{net_in, own_in}
 use Rattle.health_valves.proofs.Planning.{planned_moved}
@@ -37,3 +37,7 @@ returns-clause-kept c n m room = c.settle_uncounted.ensures.room n m (c.set_up.e
 
 pub returns-clause-links : goal.returns-clause-links
 returns-clause-links c = length_permutation _ _ c.sort.ensures.permutation
+
+pub returns-clause-laid_links : goal.returns-clause-laid_links
+returns-clause-laid_links c =
+    c.settle_uncounted.ensures.links ∙ c.set_up.ensures.links ∙ length_permutation _ _ c.sort.ensures.permutation

@@ -1,4 +1,4 @@
-use Rattle.std.proofs.Common.{arith}
+use Rattle.std.proofs.Common.{arith, ◌∙◌}
 use Rattle.health_valves.proofs.Members.{in_none}
 use Rattle.health_valves.proofs.valves.Valves.pass.Goals as goal
 
@@ -15,6 +15,8 @@ loop-preserved g c =
       first = p.first;
       marked = p.marked;
       room = λ n m h. p.room n m (i.room n m h);
+      size = p.size ∙ i.size;
+      links = p.links ∙ i.links;
       cost = omega arith;
     }
 

@@ -1,7 +1,7 @@
 use Rattle.std.proofs.Common.{◌≡◌, ◌<◌, ◌+◌, ℕ, length}
 use Rattle.std.specs.Prelude.{All}
 use Rattle.health_valves.specs.Valves.{HasEnds, Net, ValvesStandFor, size_of}
-use Rattle.health_valves.specs.Laying.{HasRoomFor}
+use Rattle.health_valves.specs.Laying.{HasRoomFor, links_of}
 use Rattle.health_valves.specs.Pass.{MeetBehind, HasMarked, IsInOrder, waiting}
 use Rattle.health_valves.proofs.valves.Valves.pass.Given as goal
 
@@ -13,6 +13,8 @@ invariant-loop g l = record {
   first : IsInOrder l.self;
   marked : HasMarked l.self;
   room : (n m : ℕ) → HasRoomFor l.fn.self n m → HasRoomFor l.self n m;
+  size : size_of l.self ≡ size_of l.fn.self;
+  links : links_of l.self ≡ links_of l.fn.self;
   cost : l.steps + length l.self.cone.items ≡ l.fn.steps + length l.fn.self.cone.items;
 }
 
