@@ -19,6 +19,61 @@ const CALLS: u64 = 200;
 /// What a crash leaves of octets that weren't synced.
 const TORN: [Torn; 3] = [Torn::Kept, Torn::Lost, Torn::Filled(1)];
 
+/// What a store may dump as: what it does behind the lines that were replied, or behind the next one.
+#[derive(Clone, Copy)]
+struct Dumps {
+    before: &'static [u8],
+    after: &'static [u8],
+}
+
+/// Whether a store dumps as one of the two, where a crash leaves these images of its files.
+fn opens_torn(
+    alloc: Global,
+    dumps: Dumps,
+    a: &MemoryDisk,
+    b: &MemoryDisk,
+    a_torn: Torn,
+    b_torn: Torn,
+) -> Result<bool, Fail> {
+    let mut a = behind_crash(alloc, a, a_torn)?;
+    let mut b = behind_crash(alloc, b, b_torn)?;
+    let (status, dump) = dumped(alloc, &mut a, &mut b)?;
+    Ok(status == Status::Done && (dump.bytes() == dumps.before || dump.bytes() == dumps.after))
+}
+
+/// The same for each image of file b.
+fn opens_with(
+    alloc: Global,
+    dumps: Dumps,
+    a: &MemoryDisk,
+    b: &MemoryDisk,
+    a_torn: Torn,
+    torn: &[Torn],
+) -> Result<bool, Fail> {
+    for b_torn in torn {
+        if !opens_torn(alloc, dumps, a, b, a_torn, *b_torn)? {
+            return Ok(false);
+        }
+    }
+    Ok(true)
+}
+
+/// The same for each pair of these images.
+fn opens_all(
+    alloc: Global,
+    dumps: Dumps,
+    a: &MemoryDisk,
+    b: &MemoryDisk,
+    torn: &[Torn],
+) -> Result<bool, Fail> {
+    for a_torn in torn {
+        if !opens_with(alloc, dumps, a, b, *a_torn, torn)? {
+            return Ok(false);
+        }
+    }
+    Ok(true)
+}
+
 /// Whether a store, where so many lines were replied, dumps as behind these or behind the next one, in
 /// each pair of images that a crash may leave of its files.
 fn opens(
@@ -28,19 +83,11 @@ fn opens(
     b: &MemoryDisk,
     lines: usize,
 ) -> Result<bool, Fail> {
-    let before = session.dump_behind(lines);
-    let after = session.dump_behind(lines.saturating_add(1));
-    for a_torn in TORN {
-        for b_torn in TORN {
-            let mut a = behind_crash(alloc, a, a_torn)?;
-            let mut b = behind_crash(alloc, b, b_torn)?;
-            let (status, dump) = dumped(alloc, &mut a, &mut b)?;
-            if status != Status::Done || (dump.bytes() != before && dump.bytes() != after) {
-                return Ok(false);
-            }
-        }
-    }
-    Ok(true)
+    let dumps = Dumps {
+        before: session.dump_behind(lines),
+        after: session.dump_behind(lines.saturating_add(1)),
+    };
+    opens_all(alloc, dumps, a, b, &TORN)
 }
 
 /// The disks of a session, of which one has a call that fails.

@@ -48,23 +48,42 @@ fn run_over(
 /// What is asked, the packet, and the reply, both in hexadecimal digits.
 type Row = (&'static str, &'static str, &'static str);
 
+/// Whether a run answers this packet so, where it comes in pieces of so many octets.
+fn answers_in(
+    alloc: Global,
+    texts: &[&str],
+    packet: &[u8],
+    piece: usize,
+    reply: &[u8],
+) -> Result<bool, Fail>
+    requires { 0 < piece }
+{
+    let outcome = run_over(alloc, texts, packet, piece, &[], 600)?;
+    Ok(outcome.status == Status::Done && outcome.sink.bytes() == reply)
+}
+
 /// Whether a run answers this packet so, in whatever pieces it comes.
 fn answers(alloc: Global, texts: &[&str], packet: &[u8], reply: &[u8]) -> Result<bool, Fail> {
-    for piece in [1, 7, 100] {
-        let outcome = run_over(alloc, texts, packet, piece, &[], 600)?;
-        if outcome.status != Status::Done || outcome.sink.bytes() != reply {
-            return Ok(false);
-        }
-    }
-    Ok(true)
+    Ok(
+        answers_in(alloc, texts, packet, 1, reply)?
+            && answers_in(alloc, texts, packet, 7, reply)?
+            && answers_in(alloc, texts, packet, 100, reply)?,
+    )
+}
+
+/// Runs over these words and the packet of a row, and compares the reply.
+fn compare_row(rt: &impl Abort, alloc: Global, texts: &[&str], row: &Row) -> Result<(), Fail> {
+    let (what, packet, reply) = row;
+    let packet = hex::decode(alloc, packet)?;
+    let reply = hex::decode(alloc, reply)?;
+    assert!(rt; answers(alloc, texts, &packet, &reply)?, "{what}");
+    Ok(())
 }
 
 /// Runs over these words and the packets of the rows, and compares the replies.
 fn compare(rt: &impl Abort, alloc: Global, texts: &[&str], rows: &[Row]) -> Result<(), Fail> {
-    for (what, packet, reply) in rows {
-        let packet = hex::decode(alloc, packet)?;
-        let reply = hex::decode(alloc, reply)?;
-        assert!(rt; answers(alloc, texts, &packet, &reply)?, "{what}");
+    for row in rows {
+        compare_row(rt, alloc, texts, row)?;
     }
     Ok(())
 }
@@ -198,6 +217,16 @@ fn ends_with_a_status(rt: HostRuntime) -> Result<(), Fail> {
     ends_with(&rt, rt.alloc(), &[], 48, Status::WriteFault)
 }
 
+/// Runs over each of these words, which are of no form. Nothing is written.
+fn refuse(rt: &impl Abort, alloc: Global, rows: &[&[&str]]) -> Result<(), Fail> {
+    for texts in rows {
+        let outcome = run_over(alloc, texts, &[0; 12], 12, &[], 600)?;
+        assert_eq!(rt; outcome.status, Status::Usage, "{texts:?}");
+        assert_eq!(rt; outcome.sink.bytes().len(), 0, "{texts:?}");
+    }
+    Ok(())
+}
+
 #[test]
 fn refuses_words(rt: HostRuntime) -> Result<(), Fail> {
     let rows: [&[&str]; 23] = [
@@ -225,10 +254,5 @@ fn refuses_words(rt: HostRuntime) -> Result<(), Fail> {
         &["drill", "100001"],
         &["drill", "007"],
     ];
-    for texts in rows {
-        let outcome = run_over(rt.alloc(), texts, &[0; 12], 12, &[], 600)?;
-        assert_eq!(rt; outcome.status, Status::Usage, "{texts:?}");
-        assert_eq!(rt; outcome.sink.bytes().len(), 0, "{texts:?}");
-    }
-    Ok(())
+    refuse(&rt, rt.alloc(), &rows)
 }
