@@ -92,14 +92,40 @@ fn drill_over<D: Disk, K: Sink>(
     ensures cause { HasCause result (D.faults a.old) (D.faults a.new) (D.faults b.old)
         (D.faults b.new) (K.faults out.old) (K.faults out.new) }
 {
+    match take_room(alloc) {
+        Ok(mut room) => drill_with(alloc, events, &mut room, out, a, b),
+        Err(_) => Drilled::OutOfMemory,
+    }
+}
+
+/// The same in this room.
+fn drill_with<D: Disk, K: Sink>(
+    alloc: Global,
+    events: u32,
+    room: &mut Room,
+    out: &mut K,
+    a: &mut D,
+    b: &mut D,
+) -> Drilled
+    requires few { events ≤ 100000 }
+    requires tables { room.old.tables ≡ no_tables }
+    requires reply { room.old.reply.room ≡ 4096 }
+    requires summary { ROOM ≤ vec_capacity room.old.summary }
+    ensures leaves { (x y : List ℕ) → D.reading a.old ≡ Some x → D.reading b.old ≡ Some y
+        → FilesOpen D.images a.old b.old empty
+        → OverLeaves result D.images a.new b.new events x y (K.held out.old) (K.held out.new) }
+    ensures unwritten { IfUnwritten result (out.new ≡ out.old) }
+    ensures a_counts { D.faults a.old ≤ D.faults a.new }
+    ensures b_counts { D.faults b.old ≤ D.faults b.new }
+    ensures out_counts { K.faults out.old ≤ K.faults out.new }
+    ensures cause { HasCause result (D.faults a.old) (D.faults a.new) (D.faults b.old)
+        (D.faults b.new) (K.faults out.old) (K.faults out.new) }
+{
     no_store_or_config();
     pair_opens_to_one_config();
     standing_place::<D>();
     match Store::open(alloc, a, b) {
-        Ok(store) => match take_room(alloc) {
-            Ok(room) => drill_in(alloc, events, store, room, out, a, b),
-            Err(_) => Drilled::OutOfMemory,
-        },
+        Ok(mut store) => drill_in(alloc, events, &mut store, room, out, a, b),
         Err(fault) => unopened(fault),
     }
 }
@@ -143,19 +169,19 @@ fn take_room(alloc: Global) -> Result<Room, OutOfMemory>
 fn drill_in<D: Disk, K: Sink>(
     alloc: Global,
     events: u32,
-    store: Store,
-    room: Room,
+    store: &mut Store,
+    room: &mut Room,
     out: &mut K,
     a: &mut D,
     b: &mut D,
 ) -> Drilled
     requires few { events ≤ 100000 }
-    requires tables { room.tables ≡ no_tables }
-    requires reply { room.reply.room ≡ 4096 }
-    requires summary { ROOM ≤ vec_capacity room.summary }
-    requires stands { StandsOn D.reading D.images store.kept.journal a.old b.old }
-    ensures leaves { (start : Engine) → StandsFor start store
-        → BothRead D.reading a.old b.old (Holds store.kept)
+    requires tables { room.old.tables ≡ no_tables }
+    requires reply { room.old.reply.room ≡ 4096 }
+    requires summary { ROOM ≤ vec_capacity room.old.summary }
+    requires stands { StandsOn D.reading D.images store.old.kept.journal a.old b.old }
+    ensures leaves { (start : Engine) → StandsFor start store.old
+        → BothRead D.reading a.old b.old (Holds store.old.kept)
         → LinesLeave result D.images a.new b.new events start (K.held out.old) (K.held out.new) }
     ensures unwritten { IfUnwritten result (out.new ≡ out.old) }
     ensures a_counts { D.faults a.old ≤ D.faults a.new }
@@ -166,17 +192,18 @@ fn drill_in<D: Disk, K: Sink>(
 {
     standing_opens::<D>();
     standing_shapes::<D>();
-    let Room {
-        tables,
-        mut reply,
-        mut summary,
-    } = room;
-    let mut store = store;
     let mut tally = Tally::new();
     match run_lines(
-        alloc, events, &mut store, &tables, &mut reply, &mut tally, a, b,
+        alloc,
+        events,
+        store,
+        &room.tables,
+        &mut room.reply,
+        &mut tally,
+        a,
+        b,
     ) {
-        Went::On => sum_up(events, &store, &tally, &mut summary, out),
+        Went::On => sum_up(events, store, &tally, &mut room.summary, out),
         Went::Halted => Drilled::DiskFault,
     }
 }

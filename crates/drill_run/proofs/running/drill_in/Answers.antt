@@ -39,6 +39,6 @@ returns-in-On-clause-cause g c =
     (g.D.Disk.faults c.run_lines.new.b) (g.K.Sink.faults c.args.out.now)
     (g.K.Sink.faults c.sum_up.new.out) c.sum_up.ensures.cause
 
-pub returns-clause-leaves : goal.returns-clause-leaves
-returns-clause-leaves g c = λ start stands files.
+pub returns-in-Halted-clause-leaves : goal.returns-in-Halted-clause-leaves
+returns-in-Halted-clause-leaves g c = λ start stands files.
     c.in-Halted.ensures.half start stands files

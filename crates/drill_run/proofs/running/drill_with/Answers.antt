@@ -1,12 +1,12 @@
 use Rattle.std.proofs.Common.{◌≡◌, ◌∙◌, refl, subst, sym}
-use Rattle.drill_run.proofs.Making.{is_start, lines_left, not_opened, place_told, unopened_cause, unopened_unasked}
+use Rattle.drill_run.proofs.Making.{cause_later, is_start, lines_left, not_opened, place_told, unopened_cause, unopened_unasked}
 use Rattle.drill_run.specs.Leaving.{HasCause, IfUnwritten, OverLeaves}
 use Rattle.drill_run.specs.declared.answers.Drilled.{Drilled}
 use Rattle.r53_core.specs.Stores.{opened}
-use Rattle.drill_run.proofs.running.drill_over.Goals as goal
+use Rattle.drill_run.proofs.running.drill_with.Goals as goal
 
-pub returns-in-Ok-take_room-clause-leaves : goal.returns-in-Ok-take_room-clause-leaves
-returns-in-Ok-take_room-clause-leaves g c = λ x y x_is y_is opens.
+pub returns-in-Ok-clause-leaves : goal.returns-in-Ok-clause-leaves
+returns-in-Ok-clause-leaves g c = λ x y x_is y_is opens.
     let kept = c.in-Ok.store.kept in
     let holds = c.in-Ok.ensures.holds x y x_is y_is in
     lines_left g.D.Disk.images c.drill_in.new.a c.drill_in.new.b c.args.events x y
@@ -35,3 +35,11 @@ pub returns-in-Err-clause-unwritten : goal.returns-in-Err-clause-unwritten
 returns-in-Err-clause-unwritten g c =
     subst (λ (d : Drilled). IfUnwritten d (c.args.out.now ≡ c.args.out.now)) (sym c.unopened.ensures)
     (unopened_unasked c.in-Err.fault (c.args.out.now ≡ c.args.out.now) refl)
+
+pub returns-in-Ok-clause-cause : goal.returns-in-Ok-clause-cause
+returns-in-Ok-clause-cause g c =
+    cause_later c.drill_in.result (g.D.Disk.faults c.args.a.now) (g.D.Disk.faults c.open.new.a)
+    (g.D.Disk.faults c.drill_in.new.a) (g.D.Disk.faults c.args.b.now)
+    (g.D.Disk.faults c.open.new.b) (g.D.Disk.faults c.drill_in.new.b)
+    (g.K.Sink.faults c.args.out.now) (g.K.Sink.faults c.drill_in.new.out)
+    c.open.ensures.a_counts c.open.ensures.b_counts c.drill_in.ensures.cause
