@@ -3,7 +3,6 @@
 ghost use Rattle.std.specs.Prelude.{◌≡◌, ◌≢◌, ◌≤◌, ◌<◌, ◌+◌, ◌∷◌, ◌↔◌, [], ℕ, IsTrue, List, false, true};
 ghost use Rattle.std.specs.Prelude.{◌⊎◌, Contains, IfOk, IsOk, OnOk, if◌then◌else◌, length};
 ghost use Rattle.check_model.specs.Checks.{Checks};
-ghost use Rattle.check_model.specs.Checks.{IsSound as AreSoundChecks};
 ghost use Rattle.health_planning.specs.Later.{AreLater};
 ghost use Rattle.health_valves.specs.Laying.{links_of};
 ghost use Rattle.health_valves.specs.Valves.{Feeds, HasEnds, IsReady, ValvesStandFor, MeetsEquation, Net};
@@ -12,22 +11,20 @@ ghost use Rattle.health_valves.specs.Pass.{IsIdle};
 ghost use Rattle.health_index.specs.Index.{HasNode, IsEndpointOf, IsLaidFor, IsNumberOf, Needs, StandsFor};
 ghost use Rattle.health_index.specs.Index.{healthy_in};
 ghost use Rattle.health_index.specs.Index.{reported};
-ghost use Rattle.health_index.specs.Following.{AreFewer, AreMore, AreSame, Follows};
-ghost use Rattle.health_index.specs.Following.{HasCheckers, IsEndpointAt};
-ghost use Rattle.health_index.specs.Following.{IsFollowed, IsOpenTo, IsWay};
+ghost use Rattle.health_index.specs.Following.{AreSame, Follows};
+ghost use Rattle.health_index.specs.Following.{IsOpenTo, IsWay};
 ghost use Rattle.health_index.specs.declared.following.Way.{Way};
-ghost use Rattle.health_index.specs.declared.following.Way.TheVariants as way;
 ghost use Rattle.health_index.specs.Kin.{kin_of};
 ghost use Rattle.health_index.specs.Founding.{ComesFirst, Founds};
 ghost use Rattle.health_index.specs.Leading.{ComesToLead, GetsValve};
 ghost use Rattle.health_index.specs.Leaving.{AreLeft, KeepsValves, Moves, SparesValves};
 ghost use Rattle.health_index.specs.Regrouping.{HasCome, HasGone, Joins, JoinsGroup, Leaves};
 ghost use Rattle.health_index.specs.Regrouping.{LeavesGroup, TellNoOther};
-ghost use Rattle.health_index.specs.Room.{AddsFew, HasAsMuch, HasRoom, HasRoomForAlias, HasRoomForFirst};
+ghost use Rattle.health_index.specs.Room.{AddsFew, HasRoom, HasRoomForAlias, HasRoomForFirst};
 ghost use Rattle.health_index.specs.Room.{IsLaidAnew, Keeps};
 ghost use Rattle.health_index.specs.Unleading.{LeavesValve, Unleads};
 ghost use Rattle.health_index.specs.Values.{WorksOut};
-ghost use Rattle.health_planning.specs.Wired.{group_seat, is_watched, watched_of};
+ghost use Rattle.health_planning.specs.Wired.{watched_of};
 ghost use Rattle.health_model.specs.Nodes.{CheckNode, InCone, Node};
 ghost use Rattle.health_model.specs.Sound.{IsSound};
 ghost use Rattle.health_model.specs.Statuses.{Report, status, status_told};
@@ -37,29 +34,20 @@ ghost use Rattle.health_planning.specs.Zones.{Zone};
 ghost use Rattle.record_set.specs.declared.sets.RecordSet.{RecordSet};
 ghost use Rattle.zone_model.specs.Slotted.{Slotted};
 
-use crate::following::{
-    Way, fresh_checkers, has_checkers, has_ids, is_endpoint, reshape_checks, way_of,
-};
-use crate::kin::{has_kin, list_kin};
+use crate::following::Way;
+use crate::kin::list_kin;
 use crate::laws::index_tells_health;
-use crate::reserving::{
-    each_ok, has_room_for, has_room_for_one, has_room_for_two, room_for_checks, room_for_kin,
-    room_for_numbers, room_for_slots,
-};
+use crate::reserving::{each_ok, room_for_checks, room_for_kin, room_for_numbers, room_for_slots};
 use crate::taking::take_result;
-use crate::valve_numbers::{asks_all, has_number, keep_numbers, spare_number};
+use crate::valve_numbers::{asks_all, has_number, keep_numbers};
 use checker_state::{CHECKERS, Checkers, fifty_alone};
 use health_check::CheckTable;
-use health_model::{one_more_report, paths_end};
+use health_model::one_more_report;
 use health_planning::{
     Delta, HealthView, MOST_CHECKS, Scratch, Seat, SetRef, Zones, list_ids, list_seen, number_at,
-    place_near, plan_valves, seat_anew, seat_beside, views_agree,
+    place_near, plan_valves, seat_anew, views_agree,
 };
-use health_standing::{
-    alias_come, first_come, gone_by, group_joined, group_left, leaves_valves, note_those, one_come,
-    one_gone, own_in, push_alias, push_first, put_seat, seat_first, seat_in, spares_valves,
-    tells_of_check, valve_left, valve_of,
-};
+use health_standing::{gone_by, leaves_valves, tells_of_check, valve_of};
 use health_valves::{Blueprint, Steps, Valves};
 use octets::OutOfMemory;
 use std::alloc::Global;
@@ -71,27 +59,27 @@ use std::sync::ledger::Ledger;
 #[derive(Drop)]
 pub struct HealthIndex {
     /// The numbers of the checks, which rise.
-    ids: Vec<u32>,
+    pub(crate) ids: Vec<u32>,
     /// Their valves. A check keeps its own while it is there, but where checks are others altogether.
-    numbers: Vec<u32>,
+    pub(crate) numbers: Vec<u32>,
     /// What the checkers of each endpoint saw.
-    seen: Vec<Option<Checkers>>,
+    pub(crate) seen: Vec<Option<Checkers>>,
     /// The children of calculated checks, one check behind the other: its number, how many it has, and these.
-    kin: Vec<u32>,
+    pub(crate) kin: Vec<u32>,
     /// By the slot of a set.
-    seats: Vec<Seat>,
-    valves: Valves,
+    pub(crate) seats: Vec<Seat>,
+    pub(crate) valves: Valves,
     /// The numbers of the checks before the last command, and what their checkers saw.
-    ids_before: Vec<u32>,
-    seen_before: Vec<Option<Checkers>>,
+    pub(crate) ids_before: Vec<u32>,
+    pub(crate) seen_before: Vec<Option<Checkers>>,
     /// The sets with valves of their own, and aliases that went since all was laid out.
-    refs: Vec<SetRef>,
+    pub(crate) refs: Vec<SetRef>,
     /// The sets of target groups with valves; and while all is laid out, the sets that had valves.
-    members: Vec<SetRef>,
+    pub(crate) members: Vec<SetRef>,
     /// What was planned: of use while all is laid out.
-    blueprint: Blueprint,
+    pub(crate) blueprint: Blueprint,
     /// Where a set that came is read.
-    scratch: Scratch,
+    pub(crate) scratch: Scratch,
 }
 
 impl Model for HealthIndex {
@@ -336,420 +324,6 @@ impl HealthIndex {
             return;
         }
         self.lay(zones, checks, false, gone_by(delta), delta.added.as_slice());
-    }
-
-    /// Takes a command by which no valve of a set or a group changes: sets went and came beside them, and
-    /// checks stay. Those that came are seated by the checks that alone decide them. The answer is whether it
-    /// is one; else the index stays as it is. It takes no memory.
-    fn reseat(&mut self, zones: &Zones, checks: &CheckTable, delta: &Delta) -> bool
-        requires room { HasRoom self.old zones.now.slots }
-        requires sound { IsSound (watched_of zones.now.zones checks.now.checks) }
-        ensures stands { (before : List Zone) (old : Checks) (reports : List Report)
-            → StandsFor before old reports self.old
-            → AreLeft before old zones.now.zones checks.now.checks delta.now → result ≡ true
-            → StandsFor zones.now.zones checks.now.checks reports self.new }
-        ensures spares { result ≡ true → SparesValves zones.now.zones self.old.seats delta.now }
-        ensures stays { result ≡ false → self.new ≡ self.old }
-        ensures ready { SparesValves zones.now.zones self.old.seats delta.now
-            → AreSame self.old.ids checks.now.checks.list → 200 ≤ size_of self.old.valves
-            → result ≡ true }
-        ensures rest { self.new ≡ record self.old { seats = self.new.seats } }
-    {
-        zones.well_formed();
-        zones.slots_apart();
-        if !spares_valves(zones, &self.seats, delta, &mut self.scratch) {
-            return false;
-        }
-        let list = checks.as_slice();
-        if !has_ids(&self.ids, list) {
-            return false;
-        }
-        if self.valves.len() < MOST_CHECKS {
-            return false;
-        }
-        seat_beside(
-            zones,
-            delta.removed.as_slice(),
-            delta.added.as_slice(),
-            &self.ids,
-            &self.numbers,
-            &mut self.seats,
-        );
-        true
-    }
-
-    /// Takes a command by which one set that nothing decides came into a group with a valve, or went from one,
-    /// or one with a valve of its own went, or an evaluated alias came. The answer is whether it is one, and there
-    /// is room to note the set; else the index stays as it is. It takes no memory.
-    fn regroup(&mut self, zones: &Zones, checks: &CheckTable, delta: &Delta) -> bool
-        requires room { HasRoom self.old zones.now.slots }
-        requires sound { IsSound (watched_of zones.now.zones checks.now.checks) }
-        ensures stands { (before : List Zone) (old : Checks) (reports : List Report)
-            → StandsFor before old reports self.old
-            → AreLeft before old zones.now.zones checks.now.checks delta.now → result ≡ true
-            → StandsFor zones.now.zones checks.now.checks reports self.new }
-        ensures zone { result ≡ true → delta.now.zone ≢ 0 }
-        ensures adds { AddsFew zones.now.slots self.old self.new }
-        ensures stays { result ≡ false → self.new ≡ self.old }
-        ensures left { (ref : SetRef) (valve : ℕ) → HasGone delta.now ref
-            → LeavesGroup zones.now.zones self.old.seats self.old.valves ref valve
-            → (result ≡ true) × Leaves ref valve self.old self.new }
-        ensures joined { (ref : SetRef) (named : RecordSet) (valve : ℕ) → HasCome delta.now ref
-            → JoinsGroup zones.now.zones self.old.seats self.old.valves ref valve
-            → RefersTo zones.now.zones ref named
-            → TellNoOther zones.now.zones self.old.seats ref.zone named.name named.rtype valve
-            → length self.old.members < self.old.space.members
-            → (result ≡ true) × Joins ref valve self.old self.new }
-        ensures unled { (ref : SetRef) (valve : ℕ) → HasGone delta.now ref
-            → LeavesValve zones.now.zones self.old.seats self.old.valves ref valve
-            → (result ≡ true) × Unleads ref valve self.old self.new }
-        ensures led { (ref : SetRef) (feeders : List ℕ) → HasCome delta.now ref
-            → ComesToLead zones.now.zones self.old.ids self.old.numbers self.old.seats self.old.valves ref feeders
-            → HasRoomForAlias self.old zones.now.slots
-            → (result ≡ true) × GetsValve ref feeders self.old self.new }
-        ensures founded { (ref : SetRef) (members : List Slotted) (feeders : List ℕ) → HasCome delta.now ref
-            → ComesFirst zones.now.zones self.old.ids self.old.numbers self.old.seats self.old.valves ref members feeders
-            → HasRoomForFirst self.old (length members) zones.now.slots
-            → (result ≡ true) × Founds ref members feeders self.old self.new }
-    {
-        zones.well_formed();
-        if let Some(set) = one_gone(delta) {
-            if self.leave(zones, checks, delta, set) {
-                return true;
-            }
-            return self.unlead(zones, checks, delta, set);
-        }
-        if let Some(set) = one_come(delta) {
-            if self.join(zones, checks, delta, set) {
-                return true;
-            }
-            if self.lead_in(zones, checks, delta, set) {
-                return true;
-            }
-            return self.found_in(zones, checks, delta, set);
-        }
-        false
-    }
-
-    /// Takes a command by which one set alone went that nothing decides.
-    fn leave(&mut self, zones: &Zones, checks: &CheckTable, delta: &Delta, set: SetRef) -> bool
-        requires sound { IsSound (watched_of zones.now.zones checks.now.checks) }
-        requires gone { HasGone delta.now set }
-        ensures stands { (before : List Zone) (old : Checks) (reports : List Report)
-            → StandsFor before old reports self.old
-            → AreLeft before old zones.now.zones checks.now.checks delta.now → result ≡ true
-            → StandsFor zones.now.zones checks.now.checks reports self.new }
-        ensures adds { AddsFew zones.now.slots self.old self.new }
-        ensures stays { result ≡ false → self.new ≡ self.old }
-        ensures group { result ≡ true → group_seat self.old.seats set.slot ≢ 0 }
-        ensures left { (valve : ℕ)
-            → LeavesGroup zones.now.zones self.old.seats self.old.valves set valve
-            → (result ≡ true) × Leaves set valve self.old self.new }
-    {
-        zones.well_formed();
-        zones.slots_apart();
-        let Some(valve) = group_left(zones, &self.seats, &self.valves, set) else {
-            return false;
-        };
-        let own = self.valves.own(valve as usize);
-        self.valves.set_count(valve, own - 1);
-        put_seat(&mut self.seats, set.slot, 0);
-        true
-    }
-
-    /// Takes a command by which one set alone went that has a valve of its own.
-    fn unlead(&mut self, zones: &Zones, checks: &CheckTable, delta: &Delta, set: SetRef) -> bool
-        requires sound { IsSound (watched_of zones.now.zones checks.now.checks) }
-        requires gone { HasGone delta.now set }
-        ensures stands { (before : List Zone) (old : Checks) (reports : List Report)
-            → StandsFor before old reports self.old
-            → AreLeft before old zones.now.zones checks.now.checks delta.now → result ≡ true
-            → StandsFor zones.now.zones checks.now.checks reports self.new }
-        ensures adds { AddsFew zones.now.slots self.old self.new }
-        ensures stays { result ≡ false → self.new ≡ self.old }
-        ensures unled { (valve : ℕ)
-            → LeavesValve zones.now.zones self.old.seats self.old.valves set valve
-            → (result ≡ true) × Unleads set valve self.old self.new }
-    {
-        zones.well_formed();
-        zones.slots_apart();
-        let Some(valve) = valve_left(zones, &self.seats, &self.valves, set) else {
-            return false;
-        };
-        self.valves.unfeed(valve);
-        put_seat(&mut self.seats, set.slot, 0);
-        true
-    }
-
-    /// Takes a command by which one set alone came.
-    fn join(&mut self, zones: &Zones, checks: &CheckTable, delta: &Delta, set: SetRef) -> bool
-        requires room { HasRoom self.old zones.now.slots }
-        requires sound { IsSound (watched_of zones.now.zones checks.now.checks) }
-        requires come { HasCome delta.now set }
-        ensures stands { (before : List Zone) (old : Checks) (reports : List Report)
-            → StandsFor before old reports self.old
-            → AreLeft before old zones.now.zones checks.now.checks delta.now → result ≡ true
-            → StandsFor zones.now.zones checks.now.checks reports self.new }
-        ensures adds { AddsFew zones.now.slots self.old self.new }
-        ensures stays { result ≡ false → self.new ≡ self.old }
-        ensures off { result ≡ true → (named : RecordSet) → RefersTo zones.now.zones set named
-            → is_watched named ≡ false }
-        ensures joined { (named : RecordSet) (valve : ℕ)
-            → JoinsGroup zones.now.zones self.old.seats self.old.valves set valve
-            → RefersTo zones.now.zones set named
-            → TellNoOther zones.now.zones self.old.seats set.zone named.name named.rtype valve
-            → length self.old.members < self.old.space.members
-            → (result ≡ true) × Joins set valve self.old self.new }
-    {
-        zones.well_formed();
-        zones.slots_apart();
-        zones.slots_within();
-        let Some(told) = group_joined(zones, &self.seats, &self.valves, set, &mut self.scratch)
-        else {
-            return false;
-        };
-        if self.members.len() >= self.members.capacity() {
-            return false;
-        }
-        let valve = told - 1;
-        let own = self.valves.own(valve as usize);
-        self.valves.set_count(valve, own + 1);
-        self.members.push_reserved(set);
-        seat_in(zones, &mut self.seats, set.slot, told);
-        true
-    }
-
-    /// Takes a command by which one evaluated alias alone came, of a group without a valve, to a target group
-    /// that has one.
-    fn lead_in(&mut self, zones: &Zones, checks: &CheckTable, delta: &Delta, set: SetRef) -> bool
-        requires room { HasRoom self.old zones.now.slots }
-        requires sound { IsSound (watched_of zones.now.zones checks.now.checks) }
-        requires come { HasCome delta.now set }
-        ensures stands { (before : List Zone) (old : Checks) (reports : List Report)
-            → StandsFor before old reports self.old
-            → AreLeft before old zones.now.zones checks.now.checks delta.now → result ≡ true
-            → StandsFor zones.now.zones checks.now.checks reports self.new }
-        ensures adds { AddsFew zones.now.slots self.old self.new }
-        ensures stays { result ≡ false → self.new ≡ self.old }
-        ensures comes { result ≡ true → (feeders : List ℕ) × ComesToLead zones.now.zones self.old.ids self.old.numbers
-            self.old.seats self.old.valves set feeders }
-        ensures led { (feeders : List ℕ)
-            → ComesToLead zones.now.zones self.old.ids self.old.numbers self.old.seats self.old.valves set feeders
-            → HasRoomForAlias self.old zones.now.slots
-            → (result ≡ true) × GetsValve set feeders self.old self.new }
-    {
-        paths_end();
-        zones.well_formed();
-        zones.slots_apart();
-        zones.slots_within();
-        let Some(feeders) = alias_come(
-            zones,
-            &self.ids,
-            &self.numbers,
-            &self.seats,
-            &self.valves,
-            set,
-            &mut self.scratch,
-        ) else {
-            return false;
-        };
-        if self.refs.len() >= self.refs.capacity() {
-            return false;
-        }
-        if !has_room_for_one(&self.valves, zones.slots()) {
-            return false;
-        }
-        let told = self.valves.len() as u32 + 1;
-        push_alias(&mut self.valves, feeders);
-        self.refs.push_reserved(set);
-        own_in(zones, &mut self.seats, set.slot, told);
-        true
-    }
-
-    /// Takes a command by which one evaluated alias alone came, of a group without a valve, the first one that
-    /// leads to a target group of whose sets nothing decides any.
-    fn found_in(&mut self, zones: &Zones, checks: &CheckTable, delta: &Delta, alias: SetRef) -> bool
-        requires room { HasRoom self.old zones.now.slots }
-        requires sound { IsSound (watched_of zones.now.zones checks.now.checks) }
-        requires come { HasCome delta.now alias }
-        ensures stands { (before : List Zone) (old : Checks) (reports : List Report)
-            → StandsFor before old reports self.old
-            → AreLeft before old zones.now.zones checks.now.checks delta.now → result ≡ true
-            → StandsFor zones.now.zones checks.now.checks reports self.new }
-        ensures adds { AddsFew zones.now.slots self.old self.new }
-        ensures stays { result ≡ false → self.new ≡ self.old }
-        ensures founded { (members : List Slotted) (feeders : List ℕ)
-            → ComesFirst zones.now.zones self.old.ids self.old.numbers self.old.seats self.old.valves alias members feeders
-            → HasRoomForFirst self.old (length members) zones.now.slots
-            → (result ≡ true) × Founds alias members feeders self.old self.new }
-    {
-        paths_end();
-        zones.well_formed();
-        zones.slots_apart();
-        zones.slots_within();
-        let Some(first) = first_come(
-            zones,
-            &self.ids,
-            &self.numbers,
-            &self.seats,
-            &self.valves,
-            alias,
-            &mut self.scratch,
-        ) else {
-            return false;
-        };
-        if self.refs.len() >= self.refs.capacity() {
-            return false;
-        }
-        if !has_room_for(&self.members, first.group.length) {
-            return false;
-        }
-        if !has_room_for_two(&self.valves, zones.slots()) {
-            return false;
-        }
-        let told = self.valves.len() as u32 + 1;
-        push_first(&mut self.valves, first.check, first.group.length as u32);
-        self.refs.push_reserved(alias);
-        note_those(zones, first.group, &mut self.members);
-        seat_first(zones, first.group, alias.slot, told, &mut self.seats);
-        true
-    }
-
-    /// Takes a command that tells of no zone, and by which no calculated check came, went or got other
-    /// children: checks have the numbers of those before, or one of an endpoint came behind them or went. The
-    /// answer is whether it is one; else the index stays as it is. It takes no memory.
-    fn follow(&mut self, checks: &CheckTable, delta: &Delta) -> bool
-        requires ids_room { 200 ≤ self.old.space.ids }
-        requires numbers_room { 200 ≤ self.old.space.numbers }
-        requires seen_room { 200 ≤ self.old.space.seen }
-        ensures zone { result ≡ true → delta.now.zone ≡ 0 }
-        ensures stands { (zones : List Zone) (old : Checks) (reports : List Report)
-            → StandsFor zones old reports self.old → AreLater old checks.now.checks
-            → IsSound (watched_of zones checks.now.checks) → result ≡ true
-            → StandsFor zones checks.now.checks reports self.new }
-        ensures as_much { HasAsMuch self.old self.new }
-        ensures stays { result ≡ false → self.new ≡ self.old }
-        ensures in_place { (way : Way) → delta.now.zone ≡ 0 → self.old.kin ≡ kin_of checks.now.checks.list
-            → IsWay self.old.ids checks.now.checks.list way
-            → IsOpenTo way checks.now.checks.list self.old
-            → (result ≡ true) × Follows way checks.now.checks.list self.old self.new }
-    {
-        if delta.zone != 0 {
-            return false;
-        }
-        if !has_kin(&self.kin, checks.as_slice()) {
-            return false;
-        }
-        if !self.take_ids(checks) {
-            return false;
-        }
-        self.follow_checks(checks);
-        true
-    }
-
-    /// Takes the numbers of checks that follow of those before in one of these ways. The answer is whether
-    /// they do; else the index stays as it is. Their valves have other conditions as yet.
-    fn take_ids(&mut self, checks: &CheckTable) -> bool
-        requires kin { self.old.kin ≡ kin_of checks.now.checks.list }
-        requires ids_room { 200 ≤ self.old.space.ids }
-        requires numbers_room { 200 ≤ self.old.space.numbers }
-        requires seen_room { 200 ≤ self.old.space.seen }
-        ensures followed { (zones : List Zone) (old : Checks) (reports : List Report)
-            → StandsFor zones old reports self.old → AreLater old checks.now.checks
-            → IsSound (watched_of zones checks.now.checks) → result ≡ true
-            → IsFollowed zones checks.now.checks reports self.new }
-        ensures as_many { result ≡ true → length self.new.ids ≡ length checks.now.checks.list }
-        ensures as_much { HasAsMuch self.old self.new }
-        ensures stays { result ≡ false → self.new ≡ self.old }
-        ensures in_place { (way : Way) → IsWay self.old.ids checks.now.checks.list way
-            → IsOpenTo way checks.now.checks.list self.old
-            → (result ≡ true) × Follows way checks.now.checks.list self.old self.new }
-    {
-        let list = checks.as_slice();
-        match way_of(&self.ids, list) {
-            Way::Same => true,
-            Way::More => self.add_check(checks),
-            Way::Fewer(gone) => self.drop_check(checks, gone),
-            Way::Other => false,
-        }
-    }
-
-    /// Takes a check that came behind those before: it gets a spare valve. The answer is whether it is of an
-    /// endpoint, and the valves of 200 checks are there, as they are once any are laid out; else the index
-    /// stays as it is.
-    fn add_check(&mut self, checks: &CheckTable) -> bool
-        requires sound { AreSoundChecks checks.now.checks }
-        requires kin { self.old.kin ≡ kin_of checks.now.checks.list }
-        requires more { AreMore self.old.ids checks.now.checks.list }
-        requires ids_room { 200 ≤ self.old.space.ids }
-        requires numbers_room { 200 ≤ self.old.space.numbers }
-        requires seen_room { 200 ≤ self.old.space.seen }
-        ensures followed { (zones : List Zone) (old : Checks) (reports : List Report)
-            → StandsFor zones old reports self.old → AreLater old checks.now.checks
-            → result ≡ true → IsFollowed zones checks.now.checks reports self.new }
-        ensures as_much { HasAsMuch self.old self.new }
-        ensures stays { result ≡ false → self.new ≡ self.old }
-        ensures ready { 200 ≤ size_of self.old.valves
-            → IsEndpointAt checks.now.checks.list (length self.old.ids) → result ≡ true }
-        ensures follows { result ≡ true
-            → Follows way.More checks.now.checks.list self.old self.new }
-    {
-        let place = self.ids.len();
-        if self.valves.len() < MOST_CHECKS {
-            return false;
-        }
-        let list = checks.as_slice();
-        let held = &list[place];
-        if !is_endpoint(&held.1) {
-            return false;
-        }
-        let checkers = fresh_checkers(&held.1);
-        let valve = spare_number(&self.numbers);
-        self.valves.set_count(valve, u32::from(checkers.passing()));
-        self.ids.push_reserved(held.0);
-        self.numbers.push_reserved(valve);
-        self.seen.push_reserved(Some(checkers));
-        true
-    }
-
-    /// Gives up the check at a place, which went: its valve is spare. The answer is whether it was of an
-    /// endpoint, whose valve nothing feeds; else the index stays as it is.
-    fn drop_check(&mut self, checks: &CheckTable, gone: usize) -> bool
-        requires sound { AreSoundChecks checks.now.checks }
-        requires kin { self.old.kin ≡ kin_of checks.now.checks.list }
-        requires fewer { AreFewer self.old.ids gone checks.now.checks.list }
-        ensures followed { (zones : List Zone) (old : Checks) (reports : List Report)
-            → StandsFor zones old reports self.old → AreLater old checks.now.checks
-            → IsSound (watched_of zones checks.now.checks) → result ≡ true
-            → IsFollowed zones checks.now.checks reports self.new }
-        ensures as_much { HasAsMuch self.old self.new }
-        ensures stays { result ≡ false → self.new ≡ self.old }
-        ensures ready { HasCheckers self.old.seen gone → result ≡ true }
-        ensures follows { result ≡ true
-            → Follows (way.Fewer gone) checks.now.checks.list self.old self.new }
-    {
-        if !has_checkers(&self.seen, gone) {
-            return false;
-        }
-        let valve = number_at(&self.numbers, gone);
-        self.valves.reshape(valve, 0, false);
-        self.ids.remove(gone);
-        self.numbers.remove(gone);
-        self.seen.remove(gone);
-        true
-    }
-
-    /// Gives the valves of checks their conditions, where their numbers were taken. It takes no memory.
-    fn follow_checks(&mut self, checks: &CheckTable)
-        requires as_many { length self.old.ids ≡ length checks.now.checks.list }
-        ensures stands { (zones : List Zone) (reports : List Report)
-            → IsFollowed zones checks.now.checks reports self.old
-            → IsSound (watched_of zones checks.now.checks)
-            → StandsFor zones checks.now.checks reports self.new }
-        ensures as_much { HasAsMuch self.old self.new }
-        ensures rest { self.new ≡ record self.old { valves = self.new.valves } }
-    {
-        reshape_checks(&mut self.valves, checks.as_slice(), &self.numbers);
     }
 
     /// Lays everything out anew, with what the checkers saw, and lists the children of calculated
