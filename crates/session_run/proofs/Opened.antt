@@ -1,10 +1,10 @@
 -- A session begins where its store was opened.
-use Rattle.std.proofs.Common.{◌≡◌, ◌∙◌, ℕ, List, Bool, Option, None, Some, Result, Ok, Err, ◌⊎◌, false, ap, refl, subst, sym}
+use Rattle.std.proofs.Common.{◌≡◌, ◌∙◌, ◌≤◌, inl, inr, arith, ℕ, List, Bool, Option, None, Some, Result, Ok, Err, ◌⊎◌, false, ap, refl, subst, sym}
 use Rattle.std.specs.Prelude.{⊤}
 use Rattle.line_splitting.specs.Lines.{Event, but_last, events_of, input_lines, is_too_long, pieces}
 use Rattle.line_splitting.specs.Reading.{FreshReader, Reader, events, fresh, is_over_limit, whole}
 use Rattle.config_model.specs.Configs.{Config}
-use Rattle.session_loop.specs.Ending.{Ends, Input}
+use Rattle.session_loop.specs.Ending.{Ends, HasCause, Input}
 use Rattle.session_loop.specs.Turning.{input_of}
 use Rattle.session_loop.specs.declared.ended.Ended.{Ended}
 use Rattle.session_loop.specs.declared.ended.Ended.TheVariants as ended
@@ -285,3 +285,28 @@ module _ {D : Type 0} (images : D → List ℕ → Type 0) (a b : D) (x y : List
   unread_keeps tables.ReadFault = tt
   unread_keeps tables.TooLong = tt
   unread_keeps tables.OutOfMemory = tt
+
+-- ---- faults after the store was opened
+
+rose_later : (old mid new : ℕ) → old ≤ mid → Rose mid new → Rose old new
+rose_later old mid new le rose = omega (arith, le, rose)
+
+pub cause_later : (how : Ended)
+    (in_old in_new a_old a_mid a_new b_old b_mid b_new link_old link_new out_old out_new : ℕ)
+    → a_old ≤ a_mid → b_old ≤ b_mid
+    → HasCause how in_old in_new a_mid a_new b_mid b_new link_old link_new out_old out_new
+    → HasCause how in_old in_new a_old a_new b_old b_new link_old link_new out_old out_new
+cause_later ended.Done in_old in_new a_old a_mid a_new b_old b_mid b_new link_old link_new out_old out_new
+    a_le b_le cause = tt
+cause_later ended.InputTooLong in_old in_new a_old a_mid a_new b_old b_mid b_new link_old link_new out_old out_new
+    a_le b_le cause = tt
+cause_later ended.ReadFault in_old in_new a_old a_mid a_new b_old b_mid b_new link_old link_new out_old out_new
+    a_le b_le cause = cause
+cause_later ended.WriteFault in_old in_new a_old a_mid a_new b_old b_mid b_new link_old link_new out_old out_new
+    a_le b_le cause = cause
+cause_later ended.DiskFault in_old in_new a_old a_mid a_new b_old b_mid b_new link_old link_new out_old out_new
+    a_le b_le (inl rose) = inl (rose_later a_old a_mid a_new a_le rose)
+cause_later ended.DiskFault in_old in_new a_old a_mid a_new b_old b_mid b_new link_old link_new out_old out_new
+    a_le b_le (inr rose) = inr (rose_later b_old b_mid b_new b_le rose)
+cause_later ended.LinkFault in_old in_new a_old a_mid a_new b_old b_mid b_new link_old link_new out_old out_new
+    a_le b_le cause = cause

@@ -1,6 +1,6 @@
 //! The tables, the store, and then the lines.
 
-ghost use Rattle.std.specs.Prelude.{◌≡◌, ◌≤◌, ℕ, List, IfOk, Some, false};
+ghost use Rattle.std.specs.Prelude.{◌≡◌, ◌≤◌, ℕ, List, IfSome, None, Some, false};
 ghost use Rattle.line_splitting.specs.Reading.{fresh};
 ghost use Rattle.engine_model.specs.Engine.{Engine};
 ghost use Rattle.session_loop.specs.Ending.{Ends, FilesKept, HasCause};
@@ -17,7 +17,6 @@ ghost use Rattle.zone_journal.specs.Standing.{StandsOn};
 
 use crate::ran::Ran;
 use geo_latency::Tables;
-use octets::OutOfMemory;
 use r53_disk::Disk;
 use r53_io::{Link, Sink, Source};
 use rand_core::Rng;
@@ -98,7 +97,8 @@ fn unread(fault: TablesFault) -> Ran
     }
 }
 
-/// The same, once the tables are read.
+/// The same, once the tables are read. All memory of a session is taken at its beginning, but for what reading a
+/// line, a command and the beginning of a compaction take.
 fn open_session<S: Source, D: Disk, L: Link, R: Rng, K: Sink>(
     alloc: Global,
     rows: Tables,
@@ -134,11 +134,55 @@ fn open_session<S: Source, D: Disk, L: Link, R: Rng, K: Sink>(
         (D.faults a.old) (D.faults a.new) (D.faults b.old) (D.faults b.new) (L.faults link.old)
         (L.faults link.new) (K.faults out.old) (K.faults out.new) }
 {
+    match LineReader::new(alloc) {
+        Ok(mut reader) => open_over(alloc, rows, &mut reader, input, out, a, b, link, words),
+        Err(_) => Ran::OutOfMemory,
+    }
+}
+
+/// The same with a reader of lines.
+fn open_over<S: Source, D: Disk, L: Link, R: Rng, K: Sink>(
+    alloc: Global,
+    rows: Tables,
+    reader: &mut LineReader,
+    input: &mut S,
+    out: &mut K,
+    a: &mut D,
+    b: &mut D,
+    link: &mut L,
+    words: &mut R,
+) -> Ran
+    requires reader { reader.old ≡ fresh }
+    ensures leaves { (given : Given) → IsTold given (S.left input.old) (Some given.rows)
+        (D.reading a.old) (D.reading b.old) (K.held out.old) (L.ports link.old) (L.coming link.old)
+        (L.sent link.old) (R.stream words.old)
+        → SessionLeaves result D.images a.new b.new given rows (S.left input.new)
+        (L.coming link.new) (R.stream words.new) (K.held out.new) (L.sent link.new) }
+    ensures files_say { (x y : List ℕ) → D.reading a.old ≡ Some x → D.reading b.old ≡ Some y
+        → FilesSay result x y }
+    ensures files_keep { (x y : List ℕ) → D.reading a.old ≡ Some x → D.reading b.old ≡ Some y
+        → SessionKeeps result D.images a.new b.new x y }
+    ensures unasked { UnlessEnded result ((input.new ≡ input.old) × (out.new ≡ out.old)
+        × (link.new ≡ link.old) × (words.new ≡ words.old)) }
+    ensures tabled { IfUntabled result ⊥ }
+    ensures a_unwritten { UnlessEnded result ((x : List ℕ) → D.reading a.old ≡ Some x
+        → Unwritten D.reading D.images D.moment D.images_since a.old a.new) }
+    ensures b_unwritten { UnlessEnded result ((y : List ℕ) → D.reading b.old ≡ Some y
+        → Unwritten D.reading D.images D.moment D.images_since b.old b.new) }
+    ensures in_counts { S.faults input.old ≤ S.faults input.new }
+    ensures a_counts { D.faults a.old ≤ D.faults a.new }
+    ensures b_counts { D.faults b.old ≤ D.faults b.new }
+    ensures link_counts { L.faults link.old ≤ L.faults link.new }
+    ensures out_counts { K.faults out.old ≤ K.faults out.new }
+    ensures cause { HasCauseOf result (S.faults input.old) (S.faults input.new) 0 0
+        (D.faults a.old) (D.faults a.new) (D.faults b.old) (D.faults b.new) (L.faults link.old)
+        (L.faults link.new) (K.faults out.old) (K.faults out.new) }
+{
     standing_place::<D>();
     match Store::open(alloc, a, b) {
-        Ok(store) => match begin(alloc, store, rows) {
-            Ok(begun) => Ran::Ended(go_on(alloc, begun, input, a, b, link, words, out)),
-            Err(_) => Ran::OutOfMemory,
+        Ok(store) => match run_over(alloc, store, rows, reader, input, a, b, link, words, out) {
+            Some(how) => Ran::Ended(how),
+            None => Ran::OutOfMemory,
         },
         Err(fault) => unopened(fault),
     }
@@ -155,29 +199,63 @@ fn unopened(fault: OpenFault) -> Ran
     }
 }
 
-/// What a session works with.
-#[derive(Drop)]
-struct Begun {
-    server: Server,
-    reader: LineReader,
-}
-
-/// A server over a store, and a reader of lines. All memory of a session is taken here, but for what reading
-/// a line, a command and the beginning of a compaction take.
-fn begin(alloc: Global, store: Store, rows: Tables) -> Result<Begun, OutOfMemory>
-    ensures server { IfOk result (λ begun.
-        begun.server ≡ record { store = store; tables = rows; bound = false }) }
-    ensures reader { IfOk result (λ begun. begun.reader ≡ fresh) }
+/// Takes the lines of an input from its beginning, over a store and tables; none is taken where memory is wanted.
+fn run_over<S: Source, D: Disk, L: Link, R: Rng, K: Sink>(
+    alloc: Global,
+    store: Store,
+    rows: Tables,
+    reader: &mut LineReader,
+    input: &mut S,
+    a: &mut D,
+    b: &mut D,
+    link: &mut L,
+    words: &mut R,
+    out: &mut K,
+) -> Option<Ended>
+    requires reader { reader.old ≡ fresh }
+    requires stands { StandsOn D.reading D.images store.kept.journal a.old b.old }
+    ensures leaves { (around : Surroundings) (start : State) (left : List ℕ) (held : List ℕ)
+        (before : List Datagram) → around.tables ≡ rows
+        → StandsFor start (record { store = store; tables = rows; bound = false }) (L.coming link.old)
+        (R.stream words.old)
+        → BothRead D.reading a.old b.old (Holds store.kept)
+        → L.ports link.old ≡ Some around.given → S.left input.old ≡ Some left
+        → K.held out.old ≡ Some held → L.sent link.old ≡ Some before
+        → IfSome result (λ how. Ends how D.images a.new b.new around (whole_input left) start held before
+        (S.left input.new) (L.coming link.new) (R.stream words.new) (K.held out.new)
+        (L.sent link.new)) }
+    ensures files { (engine : Engine) → StoreStandsFor engine store
+        → BothRead D.reading a.old b.old (Holds store.kept)
+        → IfSome result (λ how. FilesKept how D.images a.new b.new engine.config) }
+    ensures unasked { result ≡ None → (input.new ≡ input.old) × (out.new ≡ out.old)
+        × (link.new ≡ link.old) × (words.new ≡ words.old) × (a.new ≡ a.old) × (b.new ≡ b.old) }
+    ensures in_counts { S.faults input.old ≤ S.faults input.new }
+    ensures a_counts { D.faults a.old ≤ D.faults a.new }
+    ensures b_counts { D.faults b.old ≤ D.faults b.new }
+    ensures link_counts { L.faults link.old ≤ L.faults link.new }
+    ensures out_counts { K.faults out.old ≤ K.faults out.new }
+    ensures cause { IfSome result (λ how. HasCause how (S.faults input.old) (S.faults input.new)
+        (D.faults a.old) (D.faults a.new) (D.faults b.old) (D.faults b.new) (L.faults link.old)
+        (L.faults link.new) (K.faults out.old) (K.faults out.new)) }
 {
-    let reader = LineReader::new(alloc)?;
-    let server = Server::new(alloc, store, rows)?;
-    Ok(Begun { server, reader })
+    match Server::new(alloc, store, rows) {
+        Ok(mut server) => {
+            let how = go_on(alloc, reader, &mut server, input, a, b, link, words, out);
+            give_back(server);
+            Some(how)
+        }
+        Err(_) => None,
+    }
 }
 
-/// Takes the lines of an input from its beginning.
+/// Gives back what a server holds.
+fn give_back(_server: Server) {}
+
+/// Takes the lines of an input from its beginning by a server.
 fn go_on<S: Source, D: Disk, L: Link, R: Rng, K: Sink>(
     alloc: Global,
-    begun: Begun,
+    reader: &mut LineReader,
+    server: &mut Server,
     input: &mut S,
     a: &mut D,
     b: &mut D,
@@ -185,19 +263,19 @@ fn go_on<S: Source, D: Disk, L: Link, R: Rng, K: Sink>(
     words: &mut R,
     out: &mut K,
 ) -> Ended
-    requires reader { begun.reader ≡ fresh }
-    requires stands { StandsOn D.reading D.images begun.server.store.kept.journal a.old b.old }
+    requires reader { reader.old ≡ fresh }
+    requires stands { StandsOn D.reading D.images server.old.store.kept.journal a.old b.old }
     ensures leaves { (around : Surroundings) (start : State) (left : List ℕ) (held : List ℕ)
-        (before : List Datagram) → around.tables ≡ begun.server.tables
-        → StandsFor start begun.server (L.coming link.old) (R.stream words.old)
-        → BothRead D.reading a.old b.old (Holds begun.server.store.kept)
+        (before : List Datagram) → around.tables ≡ server.old.tables
+        → StandsFor start server.old (L.coming link.old) (R.stream words.old)
+        → BothRead D.reading a.old b.old (Holds server.old.store.kept)
         → L.ports link.old ≡ Some around.given → S.left input.old ≡ Some left
         → K.held out.old ≡ Some held → L.sent link.old ≡ Some before
         → Ends result D.images a.new b.new around (whole_input left) start held before
         (S.left input.new) (L.coming link.new) (R.stream words.new) (K.held out.new)
         (L.sent link.new) }
-    ensures files { (engine : Engine) → StoreStandsFor engine begun.server.store
-        → BothRead D.reading a.old b.old (Holds begun.server.store.kept)
+    ensures files { (engine : Engine) → StoreStandsFor engine server.old.store
+        → BothRead D.reading a.old b.old (Holds server.old.store.kept)
         → FilesKept result D.images a.new b.new engine.config }
     ensures in_counts { S.faults input.old ≤ S.faults input.new }
     ensures a_counts { D.faults a.old ≤ D.faults a.new }
@@ -209,19 +287,5 @@ fn go_on<S: Source, D: Disk, L: Link, R: Rng, K: Sink>(
         (K.faults out.old) (K.faults out.new) }
 {
     fresh_reader();
-    let Begun {
-        mut server,
-        mut reader,
-    } = begun;
-    take_lines(
-        alloc,
-        &mut reader,
-        &mut server,
-        input,
-        a,
-        b,
-        link,
-        words,
-        out,
-    )
+    take_lines(alloc, reader, server, input, a, b, link, words, out)
 }
