@@ -122,16 +122,17 @@ impl Store {
         ensures kept { IfOk result (λ store. store.kept ≡ kept) }
         ensures stands { IfOk result (λ store. StandsFor (opened kept) store) }
     {
-        let config = kept.config();
-        config.well_formed();
-        sound_is_watched();
-        let index = HealthIndex::rebuild(alloc, config.zones(), config.checks())?;
-        let scratch = Scratch::new(alloc)?;
-        Ok(Store {
-            kept,
-            index,
-            scratch,
-        })
+        match parts_over(alloc, &kept) {
+            Ok((index, scratch)) => Ok(Store {
+                kept,
+                index,
+                scratch,
+            }),
+            Err(_) => {
+                give_back(kept);
+                Err(OutOfMemory)
+            }
+        }
     }
 
     /// The zones, with the collections.
@@ -402,6 +403,22 @@ impl Store {
         self.index.is_healthy(set)
     }
 }
+
+/// The index of health over a configuration, with no reports yet, and a scratch.
+fn parts_over(alloc: Global, kept: &ConfigJournal) -> Result<(HealthIndex, Scratch), OutOfMemory>
+    ensures { IfOk result (λ parts. HasHealth kept.now.config.table.zones kept.now.config.checks.checks
+        [] parts.0) }
+{
+    let config = kept.config();
+    config.well_formed();
+    sound_is_watched();
+    let scratch = Scratch::new(alloc)?;
+    let index = HealthIndex::rebuild(alloc, config.zones(), config.checks())?;
+    Ok((index, scratch))
+}
+
+/// Gives back what a journal holds.
+fn give_back(_kept: ConfigJournal) {}
 
 /// Whether a command is on collections of address blocks.
 fn is_on_collections(command: &Command) -> bool

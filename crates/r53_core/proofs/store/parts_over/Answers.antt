@@ -4,7 +4,7 @@ use Rattle.sound_configs.specs.Wired.{watched_of}
 use Rattle.health_model.specs.Sound.{IsSound}
 use Rattle.config_opening.specs.Kept.{config_in}
 use Rattle.query_engine.specs.Tables.{Table}
-use Rattle.r53_core.proofs.store.Store.new.Goals as goal
+use Rattle.r53_core.proofs.store.parts_over.Goals as goal
 
 pub rebuild-requires : goal.rebuild-requires
 rebuild-requires c = record {
