@@ -91,7 +91,7 @@ asked_step lookup name [] used = Ends (no_data lookup.zone used)
 asked_step lookup name (set ∷ sets) used =
     Ends (record (ends used) { answers = answer_records name (set ∷ sets) })
 
--- A CNAME record, where there is one, is followed. Else it is no data.
+-- A CNAME record, where there is one, is followed (RFC 1034, 4.3.2, step 3a). Else it is no data (RFC 2308, 2.2).
 abbrev pub cname_step : Lookup → List Record → Choices → NameOutcome
 cname_step lookup [] choices = Ends (no_data lookup.zone choices.used)
 cname_step lookup (cname ∷ others) choices = Follows cname choices
@@ -145,6 +145,7 @@ target_sections lookup rest target choices =
     if is_zone lookup.zone (zone_for lookup.zones target) then rest target choices
     else ends choices.used
 
+-- The CNAME record stands before what its target gives (RFC 1034, 4.3.2, step 3a: back to step 1 with the canonical name).
 abbrev pub followed : Lookup → (rest : List (List ℕ) → Choices → Sections) → NameOutcome → Sections
 followed lookup rest (Ends sections) = sections
 followed lookup rest (Follows cname choices) =

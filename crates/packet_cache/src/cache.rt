@@ -29,11 +29,11 @@ const STAYS: u32 = 16;
 pub struct PacketCache {
     /// In which generation places are taken.
     generation: u32,
-    /// What is known of the packet that came last to each place: in the low two bits that, and in the others some of
-    /// its key. Hints.
+    /// What is known of the packet that came last to each place: in the low two bits that, in the next eight some of the
+    /// generation in which it came, and in the others some of its key. Hints.
     marks: Vec<u32>,
     places: Vec<Place>,
-    /// How many packets came to the places of others' replies.
+    /// How many packets came to places of others' replies alone.
     others: u32,
 }
 
@@ -89,13 +89,11 @@ impl PacketCache {
         ensures length { length octets.new ≡ length octets.old }
         ensures none { result ≡ None → octets.new ≡ octets.old }
     {
-        if self.mark(key) != mark_of(key, self.generation, KEPT) {
-            return None;
-        }
+        let at = self.place_of(key, KEPT)?;
         if len < 2 {
             return None;
         }
-        let place = self.places.get(at(key))?;
+        let place = self.places.get(at)?;
         let reply_rest = reply_in(place, self.generation, behind(front(octets, len), 2))?;
         let size = 2 + reply_rest.len();
         if size > octets.len() {
@@ -106,31 +104,30 @@ impl PacketCache {
     }
 
     /// Notes that a packet of this key came whose reply isn't kept, and says whether it is worth being kept: where such
-    /// a packet came before, and was not passed by. Most of those that come to the place of another's reply aren't
+    /// a packet came before, and was not passed by. Most of those at both of whose places others' replies are kept aren't
     /// noted, so that what is kept stays where more packets come than there are places.
     pub fn note(&mut self, key: u64) -> bool
         ensures { self.new ≡ self.old }
     {
-        let known = self.mark(key);
-        if known == mark_of(key, self.generation, PASSED) {
-            return false;
-        }
-        let came = mark_of(key, self.generation, CAME);
-        if known == came {
+        if self.place_of(key, CAME).is_some() {
             return true;
         }
-        if known % 4 == KEPT && self.is_taken(key) && !self.gives_way() {
+        if self.place_of(key, PASSED).is_some() {
             return false;
         }
-        self.set_mark(key, came);
+        if let Some(at) = self.place_for(key) {
+            self.set_mark(at, mark_of(key, self.generation, CAME));
+        }
         false
     }
 
-    /// Notes that the reply to packets of this key isn't worth being kept.
+    /// Notes that the reply to packets of this key isn't worth being kept, where it is noted that one came.
     pub fn pass_by(&mut self, key: u64)
         ensures { self.new ≡ self.old }
     {
-        self.set_mark(key, mark_of(key, self.generation, PASSED));
+        if let Some(at) = self.place_of(key, CAME) {
+            self.set_mark(at, mark_of(key, self.generation, PASSED));
+        }
     }
 
     /// Keeps the reply to a packet, in the place of another, where both are short enough.
@@ -141,17 +138,45 @@ impl PacketCache {
             self.pass_by(key);
             return;
         }
+        let at = self.place_of(key, CAME).unwrap_or(first_of(key));
         let place = taken(self.generation, behind(packet, 2), behind(reply, 2));
-        put_place(&mut self.places, at(key), place);
-        self.set_mark(key, mark_of(key, self.generation, KEPT));
+        put_place(&mut self.places, at, place);
+        self.set_mark(at, mark_of(key, self.generation, KEPT));
     }
 
-    /// Whether a reply is kept at a key's place.
-    fn is_taken(&self, key: u64) -> bool {
-        match self.places.get(at(key)) {
-            Some(place) => place.generation == self.generation,
-            None => false,
+    /// At which of its two places this is known of a packet.
+    fn place_of(&self, key: u64, known: u32) -> Option<usize> {
+        let mark = mark_of(key, self.generation, known);
+        if self.mark(first_of(key)) == mark {
+            return Some(first_of(key));
         }
+        if self.mark(second_of(key)) == mark {
+            return Some(second_of(key));
+        }
+        None
+    }
+
+    /// At which of its two places a packet is noted: the first one at which no reply is kept, or that of a reply that
+    /// gives way.
+    fn place_for(&mut self, key: u64) -> Option<usize>
+        ensures { self.new ≡ self.old }
+    {
+        if !self.is_taken(first_of(key)) {
+            return Some(first_of(key));
+        }
+        if !self.is_taken(second_of(key)) {
+            return Some(second_of(key));
+        }
+        if self.gives_way() {
+            return Some(first_of(key));
+        }
+        None
+    }
+
+    /// Whether a reply is kept at a place, by its mark.
+    fn is_taken(&self, at: usize) -> bool {
+        let mark = self.mark(at);
+        mark % 4 == KEPT && mark / 4 % 256 == self.generation % 256
     }
 
     /// Whether the reply at a place gives way to another packet, as one in so many does.
@@ -162,33 +187,38 @@ impl PacketCache {
         self.others % STAYS == 0
     }
 
-    /// The mark at a key's place.
-    fn mark(&self, key: u64) -> u32 {
-        match self.marks.get(at(key)) {
+    /// The mark of a place.
+    fn mark(&self, at: usize) -> u32 {
+        match self.marks.get(at) {
             Some(mark) => *mark,
-            None => 0,
+            None => NEVER,
         }
     }
 
     /// Another mark there.
-    fn set_mark(&mut self, key: u64, mark: u32)
+    fn set_mark(&mut self, at: usize, mark: u32)
         ensures { self.new ≡ self.old }
     {
-        if let Some(known) = self.marks.get_mut(at(key)) {
+        if let Some(known) = self.marks.get_mut(at) {
             *known = mark;
         }
     }
 }
 
-/// The place of a key.
-fn at(key: u64) -> usize {
+/// The first place of a key.
+fn first_of(key: u64) -> usize {
     (key % PLACES as u64) as usize
 }
 
-/// The mark of a key in a generation, by which this is known.
+/// The second, by other bits of the key.
+fn second_of(key: u64) -> usize {
+    (key / PLACES as u64 % PLACES as u64) as usize
+}
+
+/// The mark of a key in a generation, by which this is known: 22 bits of the key, eight of the generation, and two.
 fn mark_of(key: u64, generation: u32, known: u32) -> u32 {
-    let word = (key >> 32) as u32;
-    (word.wrapping_add(generation).wrapping_mul(4)) | known
+    let word = (key >> 42) as u32;
+    (word << 10) | (generation % 256 * 4) | known
 }
 
 /// Lays so many places, which nothing took.

@@ -4,6 +4,8 @@ use Rattle.std.specs.Prelude.{None, Some, ⊤}
 use Rattle.std.specs.List.{All}
 use Rattle.multivalue.specs.Answer.{picked}
 use Rattle.multivalue.specs.declared.choice.Picked.{Picked}
+use Rattle.routing.specs.declared.policies.Routing.TheVariants as routing
+use Rattle.zone_table.specs.Bodies.{values_of}
 use Rattle.zone_table.specs.Reasons.{IsAlias}
 use Rattle.zone_table.specs.RecordSetRecord.{RecordSet}
 use Rattle.zone_table.specs.SetKeyRecord.{SetKey}
@@ -111,6 +113,10 @@ GivesDescent zones view client words g descent before selected made used =
     → Gives zones
     (descent (means_of (healthy g.zone) client words) (sets_in_zone zones g.zone)
     (sets_in zones g) before) selected made used
+
+-- The set is simple and has values.
+abbrev pub AnswersAlone : RecordSet → Type 0
+AnswersAlone set = (set.routing ≡ routing.Simple) × (0 < length (values_of set.body))
 
 -- A descent from a group ends with its first set, by one choice, which uses nothing.
 abbrev pub EndsWithFirst : List Zone → Group → Type 0

@@ -11,7 +11,7 @@ ghost use Rattle.zone_table.specs.RecordSetRecord.{RecordSet};
 ghost use Rattle.routing.specs.declared.policies.Routing.TheVariants as policy;
 ghost use Rattle.dns_name.specs.Labels.{wire};
 ghost use Rattle.zone_table.specs.Octets.{HasSpelling};
-ghost use Rattle.zone_table.specs.Bodies.{alias_of};
+ghost use Rattle.zone_table.specs.Bodies.{alias_of, values_of};
 ghost use Rattle.zone_table.specs.Holding.{IsHolding};
 ghost use Rattle.zone_table.specs.SetRefRecord.{SetRef};
 ghost use Rattle.zone_table.specs.Sets.{IsAmong};
@@ -19,7 +19,7 @@ ghost use Rattle.zone_table.specs.Looking.{IsGroupNow};
 ghost use Rattle.policy_select.specs.Groups.{FewInGroups, sets_in, sets_in_zone};
 ghost use Rattle.policy_select.specs.Members.{PoliciesAreAt};
 ghost use Rattle.policy_select.specs.Seen.{IsSeen};
-ghost use Rattle.policy_select.specs.Selecting.{AreOfGroup, EndsWithFirst, GivesDescent};
+ghost use Rattle.policy_select.specs.Selecting.{AnswersAlone, AreOfGroup, EndsWithFirst, GivesDescent};
 ghost use Rattle.policy_select.specs.Selecting.{HoldsFirst};
 ghost use Rattle.policy_select.specs.Selecting.{HoldsFront, IsInZone};
 ghost use Rattle.policy_select.specs.Selecting.{LeadsTo, TargetOf, choice_of};
@@ -185,9 +185,9 @@ pub fn descend_named<V: HealthView>(
     )
 }
 
-/// Whether the first set of a group is told to answer alone: it is simple and has values. Then it is
-/// chosen by whatever word, and nothing is chosen behind it. Of one set or two the first one is held then, and
-/// nothing is told of larger groups, as no group of a simple set is.
+/// Whether the first set of a group of one set or two answers alone: it is simple and has values. Then it is
+/// chosen by whatever word, and nothing is chosen behind it. It is held then, and of such a group in any case;
+/// false for larger groups, as no group of a simple set is.
 #[inline(always)]
 pub fn first_answers(zones: &Zones, group: Group, scratch: &mut Scratch) -> bool
     requires group { IsGroupNow zones.now.zones group }
@@ -197,6 +197,10 @@ pub fn first_answers(zones: &Zones, group: Group, scratch: &mut Scratch) -> bool
         × (slice_get (sets_in zones.now.zones group) 0 ≡ Some set)
         × (scratch.new ≡ Some set) × HasSpelling set }
     ensures alone { IsTrue result → EndsWithFirst zones.now.zones group }
+
+    // Of one set or two, a first one that is simple and has values is always told.
+    ensures sure { group.length ≤ 2 → (set : RecordSet)
+        → slice_get (sets_in zones.now.zones group) 0 ≡ Some set → AnswersAlone set → IsTrue result }
 {
     if group.length > HELD_FIRST {
         return false;
@@ -356,8 +360,9 @@ fn choose_next<V: HealthView>(
 /// nothing is chosen behind it. Its policy isn't copied.
 fn answers_alone(scratch: &Scratch) -> bool
     requires { IsHolding scratch.now }
-    ensures { IfSome scratch.now (λ set. IsTrue result
+    ensures alone { IfSome scratch.now (λ set. IsTrue result
         → (set.routing ≡ policy.Simple) × (IsAlias set.body → ⊥)) }
+    ensures sure { IfSome scratch.now (λ set. AnswersAlone set → IsTrue result) }
 {
     is_simple_in(scratch.policy()) && has_values(scratch)
 }
@@ -496,7 +501,8 @@ fn target_of(zones: &Zones, zone: u32, scratch: &Scratch) -> Option<Group>
 /// Whether the set that is held has values, as no alias has. Its name isn't read then.
 fn has_values(scratch: &Scratch) -> bool
     requires { IsHolding scratch.now }
-    ensures { IfSome scratch.now (λ set. IsTrue result → IsAlias set.body → ⊥) }
+    ensures alias { IfSome scratch.now (λ set. IsTrue result → IsAlias set.body → ⊥) }
+    ensures values { IfSome scratch.now (λ set. 0 < length (values_of set.body) → IsTrue result) }
 {
     scratch.values() > 0
 }

@@ -26,8 +26,9 @@ use zone_table::{Ident, behind_text, fields_are_read, sub_at};
 
 /// Whether a policy at the front is the simple one.
 pub(crate) fn is_simple_in(octets: &[u8]) -> bool
-    ensures { (routing : Routing) (rest : List ℕ) → octets.now ≡ routing_octets routing ++ rest
+    ensures simple { (routing : Routing) (rest : List ℕ) → octets.now ≡ routing_octets routing ++ rest
         → IsTrue result → routing ≡ policy.Simple }
+    ensures sure { (rest : List ℕ) → octets.now ≡ routing_octets policy.Simple ++ rest → IsTrue result }
 {
     matches!(octets, [0, ..])
 }

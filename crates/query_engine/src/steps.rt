@@ -521,7 +521,7 @@ pub(crate) fn look_up<V: HealthView>(
     zones.well_formed();
     match step(zones, view, tables, asked, name, progress, reply, scratch) {
         Next::Ends(end) => end,
-        Next::Follows(ttl) => follow(
+        Next::Follows(ttl) => follow_cname(
             most, zones, view, tables, asked, name, ttl, progress, reply, scratch,
         ),
     }
@@ -532,7 +532,7 @@ pub(crate) fn look_up<V: HealthView>(
 // Apart from the way that most queries take: it copies names.
 #[cycle(look_up)]
 #[inline(never)]
-fn follow<V: HealthView>(
+fn follow_cname<V: HealthView>(
     most: u8,
     zones: &Zones,
     view: &V,

@@ -18,7 +18,7 @@ descend_from-choose_simple-requires-clause-first g t c =
     let alone = subst
     (λ (h : Option RecordSet). IfSome h (λ s. IsTrue c.answers_alone.result
     → (s.routing ≡ routing.Simple) × (IsAlias s.body → ⊥)))
-    loaded.some.1 c.answers_alone.ensures in
+    loaded.some.1 c.answers_alone.ensures.alone in
     let simple = alone c.if-answers_alone.true in
     (set, sym loaded.loaded ∙ loaded.some.1, simple.0, loaded.some.1, simple.1)
 

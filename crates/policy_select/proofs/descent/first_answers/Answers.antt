@@ -30,7 +30,7 @@ returns-clause-alone c = λ alone view client words count used healthy agrees.
     let is = subst
     (λ (h : Option RecordSet). IfSome h (λ s. IsTrue c.answers_alone.result
     → (s.routing ≡ routing.Simple) × (IsAlias s.body → ⊥)))
-    loaded.some.1 c.answers_alone.ensures alone in
+    loaded.some.1 c.answers_alone.ensures.alone alone in
     let result = selected_of g (0 ∷ []) in
     ends_here zones view healthy agrees client words g 16 count used result (count + 1) used
     (some_sets sets set first)

@@ -22,8 +22,8 @@ look_up-returns-in-Ends-clause-found g t c = λ healthy agrees.
     (sym (ends_found c.args.most lookup c.args.name.now (choices_of c.args.progress.now) is.sections
     is.ends)) is.leaves
 
-pub look_up-follow-requires : goal.look_up-follow-requires
-look_up-follow-requires g t c = λ κs lives.
+pub look_up-follow_cname-requires : goal.look_up-follow_cname-requires
+look_up-follow_cname-requires g t c = λ κs lives.
     let more = c.in-Follows.ensures.most in
     let room = c.requires.room in
     let zones = c.args.zones.now.zones in
@@ -60,11 +60,11 @@ look_up-returns-in-Follows-clause-found g t c = λ healthy agrees.
     let choices = choices_of c.args.progress.now in
     let is = c.in-Follows.ensures.comes healthy agrees in
     subst (λ (d : Draft). EndsAs (look_up c.args.most lookup c.args.name.now choices) d
-    c.follow.new.reply c.follow.result c.follow.new.progress.used) is.1
-    (c.follow.ensures.found healthy choices agrees is.0)
+    c.follow_cname.new.reply c.follow_cname.result c.follow_cname.new.progress.used) is.1
+    (c.follow_cname.ensures.found healthy choices agrees is.0)
 
-pub follow-returns-then-most-eq0-clause-found : goal.follow-returns-then-most-eq0-clause-found
-follow-returns-then-most-eq0-clause-found g t c = λ healthy choices agrees is.
+pub follow_cname-returns-then-most-eq0-clause-found : goal.follow_cname-returns-then-most-eq0-clause-found
+follow_cname-returns-then-most-eq0-clause-found g t c = λ healthy choices agrees is.
     let zones = c.args.zones.now.zones in
     let asked = c.args.asked.now in
     let lookup = asked_of zones c.args.zones.now.collections.list healthy c.args.tables.now asked in
@@ -76,8 +76,8 @@ follow-returns-then-most-eq0-clause-found g t c = λ healthy choices agrees is.
     }) (choices_of c.args.progress.now) is.follows c.args.most c.args.reply.now c.args.reply.now
     c.if-most-eq0.true refl
 
-pub follow-returns-then-not-is_held_by-clause-found : goal.follow-returns-then-not-is_held_by-clause-found
-follow-returns-then-not-is_held_by-clause-found g t c = λ healthy choices agrees is.
+pub follow_cname-returns-then-not-is_held_by-clause-found : goal.follow_cname-returns-then-not-is_held_by-clause-found
+follow_cname-returns-then-not-is_held_by-clause-found g t c = λ healthy choices agrees is.
     let zones = c.args.zones.now.zones in
     let asked = c.args.asked.now in
     let lookup = asked_of zones c.args.zones.now.collections.list healthy c.args.tables.now asked in
@@ -95,8 +95,8 @@ follow-returns-then-not-is_held_by-clause-found g t c = λ healthy choices agree
     c.write_cname.new.reply (omega (arith, some)) other
     (c.write_cname.ensures is.set is.rdata is.is_held is.first)
 
-pub follow-look_up-end-requires : goal.follow-look_up-end-requires
-follow-look_up-end-requires g t c = λ κs lives.
+pub follow_cname-look_up-end-requires : goal.follow_cname-look_up-end-requires
+follow_cname-look_up-end-requires g t c = λ κs lives.
     let asked = c.args.asked.now in
     let some = c.if-most-eq0.false in
     let less = c.decreases in
@@ -130,8 +130,8 @@ follow-look_up-end-requires g t c = λ κs lives.
       ),
     )
 
-pub follow-returns-clause-found : goal.follow-returns-clause-found
-follow-returns-clause-found g t c = λ healthy choices agrees is.
+pub follow_cname-returns-clause-found : goal.follow_cname-returns-clause-found
+follow_cname-returns-clause-found g t c = λ healthy choices agrees is.
     let zones = c.args.zones.now.zones in
     let asked = c.args.asked.now in
     let lookup = asked_of zones c.args.zones.now.collections.list healthy c.args.tables.now asked in
