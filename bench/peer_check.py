@@ -1,13 +1,15 @@
 #!/usr/bin/env python3
 """Compares replies with those of NSD, answer by answer, over one zone of simple sets.
 
-    python3 bench/peer_check.py PROGRAM [--queries 1000] [--seed 1] [--zones 0] [--nsd /usr/sbin/nsd] [--minimal no] [--show 2]
+    python3 bench/peer_check.py PROGRAM [--queries 1000] [--seed 1] [--zones 0] [--file ORIGIN=FILE ..] [--nsd /usr/sbin/nsd] [--minimal no] [--show 2]
 
 PROGRAM is the built program of bench/answers (bench/run answers PROGRAM < /dev/null): it reads the zone and the packets on its input. NSD (Debian: apt-get install nsd)
 gets the same zone as a master file, and the same packets by UDP on 127.0.0.1; its process is ended by its id.
 
 The zone is the one below; with --zones N there are N zones more, made at random of few labels, so that names, wildcards, cuts
-and CNAME records meet in many ways, and each is asked for 200 names.
+and CNAME records meet in many ways, and each is asked for 200 names. Each --file is a master file (RFC 1035, section 5) that somebody
+else wrote, as those of Debian's packages bind9 (/etc/bind/db.*) and yadifa, read as a zone of that origin and asked for 200 names, too;
+records of other types than those below are left out of it, and said.
 
 Compared are RCODE, AA, TC, RD, the question, whether there is an OPT record, and the three sections as sets of records (owner,
 type, class, TTL, data; names without case, compression undone). Differences that have a reason are counted by it, each shown a few
@@ -16,6 +18,7 @@ with status 1.
 """
 import argparse
 import random
+import re
 import socket
 import subprocess
 import sys
@@ -108,10 +111,78 @@ def random_zone(r):
     return zone
 
 
+# ---- master files (RFC 1035, section 5)
+
+SECONDS = {"": 1, "s": 1, "m": 60, "h": 3600, "d": 86400, "w": 604800}
+
+# which fields of values are names
+NAMES_OF = {"NS": [0], "CNAME": [0], "PTR": [0], "SOA": [0, 1], "MX": [1], "SRV": [3]}
+
+
+def seconds(text):
+    """A time: seconds, or numbers with units, as BIND reads them."""
+    return sum(int(n) * SECONDS[unit.lower()] for n, unit in re.findall(r"(\d+)([smhdwSMHDW]?)", text))
+
+
+def is_time(text):
+    return re.fullmatch(r"(\d+[smhdwSMHDW]?)+", text) is not None
+
+
+def entries(text):
+    """The entries of a master file: their fields, the first one empty where the line begins with a blank."""
+    fields, depth = [], 0
+    for line in text.split("\n"):
+        found = re.findall(r'"(?:\\.|[^"\\])*"|;.*|[()]|[^\s()";]+', line)
+        if depth == 0:
+            fields = [""] if line[:1] in (" ", "\t") else []
+        for word in found:
+            if word.startswith(";"):
+                break
+            depth += {"(": 1, ")": -1}.get(word, 0)
+            if word not in "()":
+                fields.append(word)
+        if depth == 0 and [it for it in fields if it]:
+            yield fields
+            fields = []
+
+
+def read_file(origin, path):
+    """The sets of a master file, each with its owner below the origin, and how many records were left out."""
+    top, base, ttl, last, sets, passed = origin.lower().rstrip("."), origin.lower().rstrip("."), None, "@", {}, 0
+
+    def absolute(name):
+        return name.lower() if name.endswith(".") else base + "." if name == "@" else name.lower() + "." + base + "."
+
+    for fields in entries(open(path, encoding="utf-8").read()):
+        if fields[0] == "$TTL":
+            ttl = seconds(fields[1])
+            continue
+        if fields[0] == "$ORIGIN":
+            base = absolute(fields[1])[:-1]
+            continue
+        if fields[0]:
+            last = absolute(fields[0])[:-1]
+        rest, own = fields[1:], ttl
+        while is_time(rest[0]) or rest[0].upper() == "IN":
+            own = own if rest[0].upper() == "IN" else seconds(rest[0])
+            rest = rest[1:]
+        rtype, data = rest[0].upper(), rest[1:]
+        if rtype not in TYPES.values() or not (last == top or last.endswith("." + top)):
+            passed += 1
+            continue
+        data = [absolute(it) if n in NAMES_OF.get(rtype, []) else it for n, it in enumerate(data)]
+        if rtype == "SOA":
+            data = data[:3] + [str(seconds(it)) for it in data[3:]]
+        owner = "@" if last == top else last[:-len(top) - 1]
+        sets.setdefault((owner, rtype), (own, []))[1].append(" ".join(data))
+    return [(owner, rtype, own, values) for (owner, rtype), (own, values) in sets.items()], passed
+
+
 def random_queries(r, zone, count):
-    owners = sorted({it[0] for it in zone} - {"@"})
+    owners = sorted({it[0] for it in zone} - {"@"}) or ["@"]
+    below = [it for it in owners if it != "@"] or ["a"]
     for n in range(count):
-        owner = r.choice([random_name(r, 4), r.choice(owners), r.choice("abx") + "." + r.choice(owners)])
+        owner = r.choice([random_name(r, 4), r.choice(owners + ["@"]), r.choice(owners), r.choice("abx") + "." + r.choice(below)])
         rtype = r.choice([1, 1, 1, 28, 2, 5, 6, 12, 15, 16, 65280])
         opt = b"\0\0\x29\x10\0\0\0\0\0\0\0"
         yield full(owner), rtype, query(n, b"\0\0", wire_name(mixed(r, full(owner))), rtype, 1, opt)
@@ -376,6 +447,7 @@ def main():
     words.add_argument("--queries", type=int, default=1000)
     words.add_argument("--seed", type=int, default=1)
     words.add_argument("--zones", type=int, default=0)
+    words.add_argument("--file", action="append", default=[])
     words.add_argument("--nsd", default="/usr/sbin/nsd")
     words.add_argument("--minimal", choices=["yes", "no"], default="no")
     words.add_argument("--show", type=int, default=2)
@@ -385,6 +457,12 @@ def main():
     compare(words, ZONE, list(queries(r, words.queries)), told)
     for n in range(words.zones):
         zone = random_zone(r)
+        compare(words, zone, list(random_queries(r, zone, 200)), told)
+    for origin, path in (it.split("=", 1) for it in words.file):
+        global APEX
+        APEX = origin.lower().rstrip(".")
+        zone, passed = read_file(origin, path)
+        print("%s: %d sets, %d records left out" % (path, len(zone), passed))
         compare(words, zone, list(random_queries(r, zone, 200)), told)
     told.end()
 

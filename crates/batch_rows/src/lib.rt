@@ -1,6 +1,8 @@
-//! Rows by hand over commands: their octets, and a batch whose set is too long to be kept.
+//! Rows by hand over commands: their octets, a batch that breaks no rule, and one whose set is too long to be kept.
 #![tactic(auto)]
 
+#[cfg(test)]
+mod coming;
 #[cfg(test)]
 mod commands;
 #[cfg(test)]

@@ -10,7 +10,7 @@ use std::test::Fail;
 use zone_table::Zones;
 
 /// The sets.
-const ROOT: [Set; 5] = [
+pub const ROOT: [Set; 5] = [
     (
         ".",
         RType::Soa,

@@ -1,5 +1,7 @@
 //! Octets kept, read where they stand, freed and kept again.
 
+ghost use Rattle.std.specs.Prelude.{◌≤◌};
+
 use octet_region::{Handle, Region, cells_for};
 use std::alloc::Global;
 use std::process::Abort;
@@ -86,5 +88,73 @@ fn many_octets(rt: HostRuntime) -> Result<(), Fail> {
     assert_eq!(&rt; octets[4999], 7, "the last octet");
     assert_eq!(&rt; octets[5000], 0, "behind it");
     assert!(&rt; region.is_at(handle, 4990, &[7; 10]), "at the end");
+    Ok(())
+}
+
+#[test]
+fn two_cells_are_taken_and_given_back(rt: HostRuntime) -> Result<(), Fail> {
+    let mut region = region(&rt, rt.alloc(), 2);
+    let handle = put(&rt, &mut region, &[7; 33]);
+    assert_eq!(&rt; region.spare(), 0, "both cells");
+    assert_eq!(&rt; region.length(handle), Some(33), "length");
+    let mut octets = [0; 33];
+    assert_eq!(&rt; region.copy_to(handle, &mut octets), Some(33), "copied");
+    assert_eq!(&rt; octets, [7; 33], "as they were put");
+    assert!(&rt; region.free(handle), "freed");
+    assert_eq!(&rt;
+        region.copy_to(handle, &mut octets),
+        None,
+        "nothing is held"
+    );
+    assert!(&rt; !region.free(handle), "freed twice");
+    assert_eq!(&rt; region.spare(), 2, "as after the reserve");
+    Ok(())
+}
+
+/// How many octets are put in a turn.
+fn size_of(turn: usize) -> usize
+    ensures { result ≤ 97 }
+{
+    turn % 97 + 1
+}
+
+/// Of which value.
+fn value_of(turn: usize) -> u8 {
+    (turn % 256) as u8
+}
+
+/// Whether a handle gives back what a turn put.
+fn copies_back(region: &Region, handle: Handle, turn: usize) -> bool {
+    if region.length(handle) != Some(size_of(turn)) {
+        return false;
+    }
+    let mut octets = [0; 97];
+    if region.copy_to(handle, &mut octets) != Some(size_of(turn)) {
+        return false;
+    }
+    octets[..size_of(turn)] == [value_of(turn); 97][..size_of(turn)]
+}
+
+/// Frees what a turn put, which is still there.
+fn take(rt: &impl Abort, region: &mut Region, kept: Option<(Handle, usize)>) {
+    if let Some((handle, turn)) = kept {
+        assert!(rt; copies_back(region, handle, turn), "copied back");
+        assert!(rt; region.free(handle), "freed");
+    }
+}
+
+#[test]
+fn cells_go_round(rt: HostRuntime) -> Result<(), Fail> {
+    let mut region = region(&rt, rt.alloc(), 4096);
+    let mut kept: [Option<(Handle, usize)>; 64] = [None; 64];
+    for turn in 0..10_000 {
+        take(&rt, &mut region, kept[turn % 64]);
+        let handle = put(&rt, &mut region, &[value_of(turn); 97][..size_of(turn)]);
+        kept[turn % 64] = Some((handle, turn));
+    }
+    for oldest in kept {
+        take(&rt, &mut region, oldest);
+    }
+    assert_eq!(&rt; region.spare(), 4096, "as after the reserve");
     Ok(())
 }
