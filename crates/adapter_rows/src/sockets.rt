@@ -1,5 +1,7 @@
 //! Sockets of this host as links.
 
+ghost use Rattle.std.specs.Prelude.{◌≤◌, length};
+
 use r53_io::{Arrival, Bound, IpAddress, Link, Peer, Sent};
 use std::process::Abort;
 use udp_link::UdpLink;
@@ -12,53 +14,67 @@ fn here(port: u16) -> Peer {
     }
 }
 
-/// A report goes from one to another.
-fn report<L: Link>(rt: &impl Abort, client: &mut L, server: &mut L, port: u16) {
-    let mut packet = [0; 65_535];
-    assert_eq!(rt; client.send(here(port), b"de"), Sent::Whole, "it is sent");
-    assert_eq!(rt; server.receive(&mut packet), Arrival::Report(2), "a report");
-    assert_eq!(rt; &packet[..2], b"de".as_slice(), "its octets");
-}
-
-#[test]
-fn sockets_as_a_link(rt: HostRuntime) {
-    let mut packet = [0; 65_535];
-    let mut server = UdpLink::new(rt.alloc(), &rt);
-    let mut client = UdpLink::new(rt.alloc(), &rt);
-    let (queries, reports) = match server.bind(0, 0) {
+/// Ports for queries and for reports, or 0 for both.
+fn bound<L: Link>(link: &mut L) -> (u16, u16) {
+    match link.bind(0, 0) {
         Bound::Ports(queries, reports) => (queries, reports),
         Bound::Failed => (0, 0),
-    };
-    let from = match client.bind(0, 0) {
-        Bound::Ports(port, _) => port,
-        Bound::Failed => 0,
-    };
+    }
+}
+
+/// Octets are sent to a port.
+fn check_send<L: Link>(rt: &impl Abort, link: &mut L, port: u16, octets: &[u8], what: &str) {
+    assert_eq!(rt; link.send(here(port), octets), Sent::Whole, "{what}");
+}
+
+/// What comes is this, of these octets.
+fn check_arrival<L: Link>(
+    rt: &impl Abort,
+    link: &mut L,
+    packet: &mut [u8],
+    arrival: Arrival,
+    octets: &[u8],
+    what: &str,
+)
+    requires { 65535 ≤ length packet.old }
+{
+    assert_eq!(rt; link.receive(packet), arrival, "{what}");
+    assert!(rt; packet.starts_with(octets), "{what}: its octets");
+}
+
+/// A query goes from one to another, a report, and a reply back.
+fn exchange<L: Link>(rt: &impl Abort, client: &mut L, server: &mut L) {
+    let (queries, reports) = bound(server);
+    let (from, _) = bound(client);
     assert!(rt; queries != 0, "a port for queries");
     assert!(rt;
         reports != 0 && reports != queries,
         "another one for reports"
     );
-    assert_eq!(rt;
-        client.send(here(queries), b"abc"),
-        Sent::Whole,
-        "a query is sent"
+    let mut packet = [0; 65_535];
+    let asked = Arrival::Dns(here(from), 3);
+    check_send(rt, client, queries, b"abc", "a query is sent");
+    check_arrival(rt, server, &mut packet, asked, b"abc", "a query");
+    check_send(rt, client, reports, b"de", "a report is sent");
+    check_arrival(
+        rt,
+        server,
+        &mut packet,
+        Arrival::Report(2),
+        b"de",
+        "a report",
     );
-    assert_eq!(rt;
-        server.receive(&mut packet),
-        Arrival::Dns(here(from), 3),
-        "a query"
-    );
-    assert_eq!(rt; &packet[..3], b"abc".as_slice(), "its octets");
-    report(&rt, &mut client, &mut server, reports);
-    assert_eq!(rt;
-        server.send(here(from), b"f"),
-        Sent::Whole,
-        "a reply is sent"
-    );
-    assert_eq!(rt;
-        client.receive(&mut packet),
-        Arrival::Dns(here(queries), 1),
-        "a reply"
-    );
-    assert_eq!(rt; server.receive(&mut packet), Arrival::Quiet, "no more");
+    let replied = Arrival::Dns(here(queries), 1);
+    check_send(rt, server, from, b"f", "a reply is sent");
+    check_arrival(rt, client, &mut packet, replied, b"f", "a reply");
+    check_arrival(rt, server, &mut packet, Arrival::Quiet, b"", "no more");
+}
+
+#[test]
+fn sockets_as_a_link(rt: HostRuntime) {
+    let mut server = UdpLink::new(rt.alloc(), &rt);
+    let mut client = UdpLink::new(rt.alloc(), &rt);
+    exchange(&rt, &mut client, &mut server);
+    drop(client);
+    drop(server);
 }

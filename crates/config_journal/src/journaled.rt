@@ -97,11 +97,15 @@ impl ConfigJournal {
         accepted_have_spelling();
         accepted_are_short();
         let Ok(octets) = write(alloc, prepared.command()) else {
+            drop(prepared);
             return Err(Refusal::OutOfMemory);
         };
         let Ok(entry) = Entry::new(alloc, &octets) else {
+            drop(octets);
+            drop(prepared);
             return Err(Refusal::OutOfMemory);
         };
+        drop(octets);
         Ok(ReadyCommand { prepared, entry })
     }
 
@@ -157,9 +161,20 @@ impl ConfigJournal {
         plan_goes_on();
         let ReadyCommand { prepared, entry } = ready;
         match self.journal.append(a, b, &entry) {
-            Appended::Done => Ok(self.config.install(prepared)),
-            Appended::Full(length) => Err(Refusal::JournalFull(length)),
-            Appended::DiskFault => Err(Refusal::DiskFault),
+            Appended::Done => {
+                drop(entry);
+                Ok(self.config.install(prepared))
+            }
+            Appended::Full(length) => {
+                drop(entry);
+                drop(prepared);
+                Err(Refusal::JournalFull(length))
+            }
+            Appended::DiskFault => {
+                drop(entry);
+                drop(prepared);
+                Err(Refusal::DiskFault)
+            }
         }
     }
 }

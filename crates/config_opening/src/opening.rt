@@ -83,8 +83,15 @@ fn read_on<D: Disk>(
     baseless_is_no_store();
     let mut config = match base(alloc, octets) {
         Ok(config) => config,
-        Err(SnapshotFault::Bad) => return Err(OpenFault::NotAStore(journal.side(), 20)),
-        Err(SnapshotFault::OutOfMemory) => return Err(OpenFault::OutOfMemory),
+        Err(SnapshotFault::Bad) => {
+            let fault = OpenFault::NotAStore(journal.side(), 20);
+            drop(journal);
+            return Err(fault);
+        }
+        Err(SnapshotFault::OutOfMemory) => {
+            drop(journal);
+            return Err(OpenFault::OutOfMemory);
+        }
     };
     config.put_hints_off();
     match replay(alloc, &mut config, &mut journal, a, b) {
@@ -92,7 +99,11 @@ fn read_on<D: Disk>(
             config.settle_hints();
             Ok(ConfigJournal::new(config, journal))
         }
-        Err(fault) => Err(fault),
+        Err(fault) => {
+            drop(config);
+            drop(journal);
+            Err(fault)
+        }
     }
 }
 

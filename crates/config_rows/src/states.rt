@@ -43,25 +43,46 @@ fn written(rt: &impl Abort, alloc: Global, config: &Config) -> Vec<u8> {
     config.snapshot(alloc).ok().expect(rt, "memory")
 }
 
-#[test]
-fn second_version(rt: HostRuntime) {
-    let config = read(&rt, rt.alloc(), &SECOND);
+/// The snapshot of a configuration is the second.
+fn check_written(rt: &impl Abort, alloc: Global, config: &Config, what: &str) {
+    let octets = written(rt, alloc, config);
+    assert_eq!(rt; octets.as_slice(), SECOND.as_slice(), "{what}");
+    drop(octets);
+}
+
+/// A configuration holds what the second does.
+fn check_held(rt: &impl Abort, config: &Config) {
     assert_eq!(rt; config.next_zone(), 2, "the next zone");
     assert_eq!(rt; config.zones().count(1), 3, "three sets");
     assert!(rt; config.checks().get(1).is_some(), "h1");
-    let octets = written(&rt, rt.alloc(), &config);
-    assert_eq!(rt; octets.as_slice(), SECOND.as_slice(), "written again");
+}
+
+#[test]
+fn second_version(rt: HostRuntime) {
+    let config = read(&rt, rt.alloc(), &SECOND);
+    check_held(&rt, &config);
+    check_written(&rt, rt.alloc(), &config, "written again");
+    drop(config);
 }
 
 #[test]
 fn first_version(rt: HostRuntime) {
     let config = read(&rt, rt.alloc(), &FIRST);
-    let octets = written(&rt, rt.alloc(), &config);
-    assert_eq!(rt;
-        octets.as_slice(),
-        SECOND.as_slice(),
-        "written as version 2"
-    );
+    check_written(&rt, rt.alloc(), &config, "written as version 2");
+    drop(config);
+}
+
+/// A configuration of a version has nothing in it.
+fn check_empty(rt: &impl Abort, config: &Config, version: &str) {
+    assert_eq!(rt; config.zones().len(), 0, "{version}: no zones");
+    assert_eq!(rt; config.next_zone(), 1, "{version}: the next zone");
+}
+
+/// Octets are the snapshot of a configuration that has nothing in it.
+fn check_nothing(rt: &impl Abort, alloc: Global, octets: &[u8], version: &str) {
+    let config = read(rt, alloc, octets);
+    check_empty(rt, &config, version);
+    drop(config);
 }
 
 #[test]
@@ -76,9 +97,7 @@ fn nothing_in_it(rt: HostRuntime) {
         ),
     ];
     for (octets, version) in rows {
-        let config = read(&rt, rt.alloc(), octets);
-        assert_eq!(rt; config.zones().len(), 0, "{version}: no zones");
-        assert_eq!(rt; config.next_zone(), 1, "{version}: the next zone");
+        check_nothing(&rt, rt.alloc(), octets, version);
     }
 }
 

@@ -93,7 +93,11 @@ fn drill_over<D: Disk, K: Sink>(
         (D.faults b.new) (K.faults out.old) (K.faults out.new) }
 {
     match take_room(alloc) {
-        Ok(mut room) => drill_with(alloc, events, &mut room, out, a, b),
+        Ok(mut room) => {
+            let drilled = drill_with(alloc, events, &mut room, out, a, b);
+            drop(room);
+            drilled
+        }
         Err(_) => Drilled::OutOfMemory,
     }
 }
@@ -125,7 +129,11 @@ fn drill_with<D: Disk, K: Sink>(
     pair_opens_to_one_config();
     standing_place::<D>();
     match Store::open(alloc, a, b) {
-        Ok(mut store) => drill_in(alloc, events, &mut store, room, out, a, b),
+        Ok(mut store) => {
+            let drilled = drill_in(alloc, events, &mut store, room, out, a, b);
+            drop(store);
+            drilled
+        }
         Err(fault) => unopened(fault),
     }
 }
@@ -157,7 +165,10 @@ fn take_room(alloc: Global) -> Result<Room, OutOfMemory>
     ensures summary { IfOk result (λ room. ROOM ≤ vec_capacity room.summary) }
 {
     let reply = Reply::new(alloc, REPLY_ROOM)?;
-    let summary = Vec::with_capacity(alloc, ROOM)?;
+    let Ok(summary) = Vec::with_capacity(alloc, ROOM) else {
+        drop(reply);
+        return Err(OutOfMemory);
+    };
     Ok(Room {
         tables: Tables::new(alloc),
         reply,

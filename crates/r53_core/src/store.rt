@@ -129,7 +129,7 @@ impl Store {
                 scratch,
             }),
             Err(_) => {
-                give_back(kept);
+                drop(kept);
                 Err(OutOfMemory)
             }
         }
@@ -210,6 +210,7 @@ impl Store {
             Err(why) => return Err(why),
         };
         let Ok(()) = self.index.reserve(self.kept.config().zones()) else {
+            drop(ready);
             return Err(Refusal::OutOfMemory);
         };
         match self.kept.commit(a, b, ready) {
@@ -413,12 +414,12 @@ fn parts_over(alloc: Global, kept: &ConfigJournal) -> Result<(HealthIndex, Scrat
     config.well_formed();
     sound_is_watched();
     let scratch = Scratch::new(alloc)?;
-    let index = HealthIndex::rebuild(alloc, config.zones(), config.checks())?;
+    let Ok(index) = HealthIndex::rebuild(alloc, config.zones(), config.checks()) else {
+        drop(scratch);
+        return Err(OutOfMemory);
+    };
     Ok((index, scratch))
 }
-
-/// Gives back what a journal holds.
-fn give_back(_kept: ConfigJournal) {}
 
 /// Whether a command is on collections of address blocks.
 fn is_on_collections(command: &Command) -> bool

@@ -1,11 +1,13 @@
 //! Drills over disks in memory: the line that each writes, and the file of a compaction, which comes
 //! behind ten thousand events.
 
-use crate::stores::run_words;
+use crate::stores::runs;
+use crate::two_disks::{Disks, empty_disks};
 use r53_cli::{Side, Status};
 use r53_disk::{Disk, Done, MemoryDisk, Size};
-use r53_io::{ListSource, VecSink};
 use std::alloc::Global;
+use std::mem::replace;
+use std::process::Abort;
 use std::test::Fail;
 
 /// The room of a disk, in octets.
@@ -16,18 +18,18 @@ const SECOND_GENERATION: [u8; 20] = [
     0x01, 0x52, 0x35, 0x33, 0x5a, 0x4a, 0x30, 0x31, 0, 0, 0, 0, 0, 0, 0, 2, 0, 0, 0x19, 0xf7,
 ];
 
-/// How a drill ends, and whether it wrote this line.
-fn drills(
+/// A drill over so many events ends so, and writes this line.
+fn check(
+    rt: &impl Abort,
     alloc: Global,
     events: &str,
-    a: &mut MemoryDisk,
-    b: &mut MemoryDisk,
+    disks: &mut Disks,
+    status: Status,
     line: &[u8],
-) -> Result<(Status, bool), Fail> {
-    let input = ListSource::new(alloc, &[], 1, &[])?;
-    let sink = VecSink::new(alloc, 256, &[])?;
-    let (status, sink) = run_words(alloc, &["drill", events], input, sink, a, b)?;
-    Ok((status, sink.bytes() == line))
+) -> Result<(), Fail> {
+    let told = runs(alloc, &["drill", events], &[], 1, disks, line)?;
+    assert_eq!(rt; told, (status, true), "{events} events");
+    Ok(())
 }
 
 /// The size of a disk, and whether its file begins with these octets.
@@ -41,50 +43,67 @@ fn begins_with(disk: &mut MemoryDisk, octets: &[u8; 20]) -> (Size, bool) {
     (size, read == Done::Whole && front == *octets)
 }
 
+/// File b has this size, and begins with these octets.
+fn check_front(rt: &impl Abort, disks: &mut Disks, octets: &[u8; 20], size: u64) {
+    let found = begins_with(&mut disks.b, octets);
+    assert_eq!(rt; found, (Size::Bytes(size), true));
+}
+
 #[test]
 fn a_few_events(rt: HostRuntime) -> Result<(), Fail> {
-    let alloc = rt.alloc();
-    let mut a = MemoryDisk::new(alloc, &[], ROOM, &[])?;
-    let mut b = MemoryDisk::new(alloc, &[], ROOM, &[])?;
-    let told = drills(
+    let mut disks = empty_disks(rt.alloc(), ROOM)?;
+    let drilled = drill_few(&rt, rt.alloc(), &mut disks);
+    drop(disks);
+    drilled
+}
+
+/// A drill over a few events, and another over the store that it made.
+fn drill_few(rt: &impl Abort, alloc: Global, disks: &mut Disks) -> Result<(), Fail> {
+    check(
+        rt,
         alloc,
         "4",
-        &mut a,
-        &mut b,
+        disks,
+        Status::Done,
         b"{\"Batches\":1,\"Drill\":4,\"Healthy\":73,\"NxDomain\":0,\"Ok\":\"drill\",\"Records\":2,\"ReplyBytes\":97,\"Reports\":1}\n",
     )?;
-    assert_eq!(rt; told, (Status::Done, true));
-    let told = drills(alloc, "4", &mut a, &mut b, &[])?;
-    assert_eq!(rt; told, (Status::AlreadyAStore(Side::A), true));
-    Ok(())
+    check(rt, alloc, "4", disks, Status::AlreadyAStore(Side::A), &[])
 }
 
 #[test]
 fn a_compaction_behind_ten_thousand_events(rt: HostRuntime) -> Result<(), Fail> {
-    let alloc = rt.alloc();
-    let mut a = MemoryDisk::new(alloc, &[], ROOM, &[])?;
-    let mut b = MemoryDisk::new(alloc, &[], ROOM, &[])?;
-    let told = drills(
+    let mut disks = empty_disks(rt.alloc(), ROOM)?;
+    let drilled = drill_before(&rt, rt.alloc(), &mut disks);
+    drop(disks);
+    drilled
+}
+
+/// A drill over one event less, which leaves file b empty, and then one with another file a.
+fn drill_before(rt: &impl Abort, alloc: Global, disks: &mut Disks) -> Result<(), Fail> {
+    check(
+        rt,
         alloc,
         "9999",
-        &mut a,
-        &mut b,
+        disks,
+        Status::Done,
         b"{\"Batches\":2500,\"Drill\":9999,\"Healthy\":172,\"NxDomain\":1200,\"Ok\":\"drill\",\"Records\":3799,\"ReplyBytes\":318021,\"Reports\":2500}\n",
     )?;
-    assert_eq!(rt; told, (Status::Done, true));
-    assert_eq!(rt; b.size(), Size::Bytes(0));
-    let mut a = MemoryDisk::new(alloc, &[], ROOM, &[])?;
-    let told = drills(
+    assert_eq!(rt; disks.b.size(), Size::Bytes(0));
+    let a = MemoryDisk::new(alloc, &[], ROOM, &[])?;
+    drop(replace(&mut disks.a, a));
+    drill_behind(rt, alloc, disks)
+}
+
+/// A drill over ten thousand events, which leaves a compaction in file b.
+fn drill_behind(rt: &impl Abort, alloc: Global, disks: &mut Disks) -> Result<(), Fail> {
+    check(
+        rt,
         alloc,
         "10000",
-        &mut a,
-        &mut b,
+        disks,
+        Status::Done,
         b"{\"Batches\":2500,\"Drill\":10000,\"Healthy\":172,\"NxDomain\":1200,\"Ok\":\"drill\",\"Records\":3800,\"ReplyBytes\":318070,\"Reports\":2500}\n",
     )?;
-    assert_eq!(rt; told, (Status::Done, true));
-    assert_eq!(rt;
-        begins_with(&mut b, &SECOND_GENERATION),
-        (Size::Bytes(6668), true)
-    );
+    check_front(rt, disks, &SECOND_GENERATION, 6668);
     Ok(())
 }

@@ -13,3 +13,5 @@ mod once;
 mod serving;
 #[cfg(test)]
 mod stores;
+#[cfg(test)]
+mod two_disks;

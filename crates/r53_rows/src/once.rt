@@ -2,20 +2,13 @@
 
 ghost use Rattle.std.specs.Prelude.{◌<◌};
 
-use crate::stores::run_words;
+use crate::stores::{run_words, with};
+use crate::two_disks::empty_disks;
 use r53_cli::Status;
-use r53_disk::MemoryDisk;
-use r53_io::{ListSource, VecSink};
+use r53_io::VecSink;
 use std::alloc::{AllocError, Global};
 use std::process::Abort;
 use std::test::Fail;
-
-/// What a run answers and writes.
-#[derive(Drop)]
-struct Outcome {
-    status: Status,
-    sink: VecSink,
-}
 
 /// The words of a command line.
 pub(crate) fn words(alloc: Global, texts: &[&str]) -> Result<Vec<String>, AllocError> {
@@ -26,23 +19,39 @@ pub(crate) fn words(alloc: Global, texts: &[&str]) -> Result<Vec<String>, AllocE
     Ok(words)
 }
 
-/// Runs over these words and this input, in pieces, where the reads of these numbers fail.
+/// How a run over these words and this input ends, in pieces, where the reads of these numbers fail.
 fn run_over(
     alloc: Global,
     texts: &[&str],
     input: &[u8],
     piece: usize,
     fail: &[u64],
-    room: usize,
-) -> Result<Outcome, Fail>
+    sink: &mut VecSink,
+) -> Result<Status, Fail>
     requires { 0 < piece }
 {
-    let input = ListSource::new(alloc, input, piece, fail)?;
-    let sink = VecSink::new(alloc, room, &[])?;
-    let mut a = MemoryDisk::new(alloc, &[], 0, &[])?;
-    let mut b = MemoryDisk::new(alloc, &[], 0, &[])?;
-    let (status, sink) = run_words(alloc, texts, input, sink, &mut a, &mut b)?;
-    Ok(Outcome { status, sink })
+    let mut disks = empty_disks(alloc, 0)?;
+    let ended = run_words(alloc, texts, input, piece, fail, sink, &mut disks);
+    drop(disks);
+    ended
+}
+
+/// The same into so much room, with how many octets it writes.
+fn count_over(
+    alloc: Global,
+    texts: &[&str],
+    input: &[u8],
+    piece: usize,
+    fail: &[u64],
+    room: usize,
+) -> Result<(Status, usize), Fail>
+    requires { 0 < piece }
+{
+    let mut sink = VecSink::new(alloc, room, &[])?;
+    let ended = run_over(alloc, texts, input, piece, fail, &mut sink);
+    let told = with(ended, sink.bytes().len());
+    drop(sink);
+    told
 }
 
 /// What is asked, the packet, and the reply, both in hexadecimal digits.
@@ -58,8 +67,12 @@ fn answers_in(
 ) -> Result<bool, Fail>
     requires { 0 < piece }
 {
-    let outcome = run_over(alloc, texts, packet, piece, &[], 600)?;
-    Ok(outcome.status == Status::Done && outcome.sink.bytes() == reply)
+    let mut sink = VecSink::new(alloc, 600, &[])?;
+    let ended = run_over(alloc, texts, packet, piece, &[], &mut sink);
+    let told = with(ended, sink.bytes() == reply);
+    drop(sink);
+    let (status, same) = told?;
+    Ok(status == Status::Done && same)
 }
 
 /// Whether a run answers this packet so, in whatever pieces it comes.
@@ -75,9 +88,23 @@ fn answers(alloc: Global, texts: &[&str], packet: &[u8], reply: &[u8]) -> Result
 fn compare_row(rt: &impl Abort, alloc: Global, texts: &[&str], row: &Row) -> Result<(), Fail> {
     let (what, packet, reply) = row;
     let packet = hex::decode(alloc, packet)?;
-    let reply = hex::decode(alloc, reply)?;
-    assert!(rt; answers(alloc, texts, &packet, &reply)?, "{what}");
+    let answered = answers_digits(alloc, texts, &packet, reply);
+    drop(packet);
+    assert!(rt; answered?, "{what}");
     Ok(())
+}
+
+/// Whether a run answers this packet by a reply in hexadecimal digits, in whatever pieces it comes.
+fn answers_digits(
+    alloc: Global,
+    texts: &[&str],
+    packet: &[u8],
+    digits: &str,
+) -> Result<bool, Fail> {
+    let reply = hex::decode(alloc, digits)?;
+    let answered = answers(alloc, texts, packet, &reply);
+    drop(reply);
+    answered
 }
 
 /// Runs over these words and the packets of the rows, and compares the replies.
@@ -185,9 +212,9 @@ fn reads_past_the_packet(rt: HostRuntime) -> Result<(), Fail> {
         "12340100000100000000000003775777076578616d706c6503636f6d0000010001",
     )?;
     input.resize(70_000, 0)?;
-    let outcome = run_over(rt.alloc(), &WWW, &input, 5000, &[], 600)?;
-    assert_eq!(rt; outcome.status, Status::Done);
-    assert_eq!(rt; outcome.sink.bytes().len(), 49);
+    let told = count_over(rt.alloc(), &WWW, &input, 5000, &[], 600);
+    drop(input);
+    assert_eq!(rt; told?, (Status::Done, 49));
     Ok(())
 }
 
@@ -203,9 +230,9 @@ fn ends_with(
         alloc,
         "12340100000100000000000003775777076578616d706c6503636f6d0000010001",
     )?;
-    let outcome = run_over(alloc, &WWW, &packet, 1, fail, room)?;
-    assert_eq!(rt; outcome.status, status, "{fail:?}");
-    assert_eq!(rt; outcome.sink.bytes().len(), 0, "{fail:?}");
+    let told = count_over(alloc, &WWW, &packet, 1, fail, room);
+    drop(packet);
+    assert_eq!(rt; told?, (status, 0), "{fail:?}");
     Ok(())
 }
 
@@ -217,12 +244,17 @@ fn ends_with_a_status(rt: HostRuntime) -> Result<(), Fail> {
     ends_with(&rt, rt.alloc(), &[], 48, Status::WriteFault)
 }
 
-/// Runs over each of these words, which are of no form. Nothing is written.
+/// Runs over these words, which are of no form. Nothing is written.
+fn refuse_words(rt: &impl Abort, alloc: Global, texts: &[&str]) -> Result<(), Fail> {
+    let told = count_over(alloc, texts, &[0; 12], 12, &[], 600)?;
+    assert_eq!(rt; told, (Status::Usage, 0), "{texts:?}");
+    Ok(())
+}
+
+/// The same for each of these.
 fn refuse(rt: &impl Abort, alloc: Global, rows: &[&[&str]]) -> Result<(), Fail> {
     for texts in rows {
-        let outcome = run_over(alloc, texts, &[0; 12], 12, &[], 600)?;
-        assert_eq!(rt; outcome.status, Status::Usage, "{texts:?}");
-        assert_eq!(rt; outcome.sink.bytes().len(), 0, "{texts:?}");
+        refuse_words(rt, alloc, texts)?;
     }
     Ok(())
 }

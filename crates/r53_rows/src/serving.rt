@@ -6,10 +6,10 @@ ghost use Rattle.std.specs.Prelude.{IfOk};
 ghost use Rattle.r53_io.specs.Script.{FitsDatagram};
 
 use crate::lines::{SERVING, Session, count_lines};
-use crate::stores::{disk, dumped, run_linked};
+use crate::stores::{run_linked, runs, with};
+use crate::two_disks::{Disks, make_disks};
 use r53_cli::Status;
-use r53_disk::MemoryDisk;
-use r53_io::{IpAddress, ListSource, Peer, ScriptLink, Scripted, VecSink};
+use r53_io::{IpAddress, Peer, ScriptLink, Scripted, VecSink};
 use std::alloc::Global;
 use std::process::Abort;
 use std::test::Fail;
@@ -40,66 +40,107 @@ fn arrivals(alloc: Global) -> Result<Vec<Scripted>, Fail>
     Ok(coming)
 }
 
-/// What a session that serves came to.
-#[derive(Drop)]
-struct Served {
-    status: Status,
-    sink: VecSink,
-    link: ScriptLink,
-    a: MemoryDisk,
-    b: MemoryDisk,
+/// The numbers of the calls that fail: of the input, of the output and of the network.
+#[derive(Clone, Copy, Debug)]
+struct Fails<'f> {
+    reads: &'f [u64],
+    writes: &'f [u64],
+    calls: &'f [u64],
 }
 
-/// The session, where these calls of the input, of the output and of the network fail.
+/// How many lines a session replied, and how many datagrams it sent.
+type End = (usize, usize);
+
+/// How the session ends where these calls fail, and whether it came to this end.
 fn run_served(
     alloc: Global,
     session: &Session,
-    reads: &[u64],
-    writes: &[u64],
-    calls: &[u64],
-) -> Result<Served, Fail> {
-    let mut a = disk(alloc, session.file, &[])?;
-    let mut b = disk(alloc, &[], &[])?;
-    let input = ListSource::new(alloc, session.lines, PIECE, reads)?;
-    let sink = VecSink::new(alloc, 4096, writes)?;
-    let mut link = ScriptLink::new(alloc, arrivals(alloc)?, calls)?;
-    let (status, sink) = run_linked(alloc, &["run"], input, sink, &mut a, &mut b, &mut link)?;
-    Ok(Served {
-        status,
-        sink,
+    fails: Fails<'_>,
+    end: End,
+) -> Result<(Status, bool), Fail> {
+    let mut disks = make_disks(alloc, session.file, &[], &[])?;
+    let told = run_on(alloc, session, fails, end, &mut disks);
+    drop(disks);
+    told
+}
+
+/// The same on these disks.
+fn run_on(
+    alloc: Global,
+    session: &Session,
+    fails: Fails<'_>,
+    end: End,
+    disks: &mut Disks,
+) -> Result<(Status, bool), Fail> {
+    let coming = arrivals(alloc)?;
+    let mut link = ScriptLink::new(alloc, coming, fails.calls)?;
+    let told = run_over(alloc, session, fails, end, disks, &mut link);
+    drop(link);
+    told
+}
+
+/// The same over this network.
+fn run_over(
+    alloc: Global,
+    session: &Session,
+    fails: Fails<'_>,
+    end: End,
+    disks: &mut Disks,
+    link: &mut ScriptLink,
+) -> Result<(Status, bool), Fail> {
+    let mut sink = VecSink::new(alloc, 4096, fails.writes)?;
+    let ended = run_linked(
+        alloc,
+        &["run"],
+        session.lines,
+        PIECE,
+        fails.reads,
+        &mut sink,
+        disks,
         link,
-        a,
-        b,
-    })
+    );
+    let served = is_served(session, sink.bytes(), link, end);
+    drop(sink);
+    with(ended, served)
 }
 
 /// Whether the first datagram that was sent, if any was, is the reply.
-fn is_replied(served: &Served, datagrams: usize) -> bool {
-    match served.link.sent(0) {
+fn is_replied(link: &ScriptLink, datagrams: usize) -> bool {
+    match link.sent(0) {
         Some((_, octets)) => octets == REPLY,
         None => datagrams == 0,
     }
 }
 
-/// Whether a session replied so many lines, and sent so many datagrams, each the reply.
-fn is_served(session: &Session, served: &Served, lines: usize, datagrams: usize) -> bool {
-    is_replied(served, datagrams)
-        && served.link.sent(datagrams).is_none()
-        && served.sink.bytes() == session.replies_to(lines)
+/// Whether a session wrote the replies of so many lines, and sent so many datagrams, each the reply.
+fn is_served(session: &Session, written: &[u8], link: &ScriptLink, end: End) -> bool {
+    let (lines, datagrams) = end;
+    is_replied(link, datagrams)
+        && link.sent(datagrams).is_none()
+        && written == session.replies_to(lines)
 }
 
-/// The session where one call of the network fails.
-fn compare_call(
+/// The session where these calls fail ends so.
+fn compare(
     rt: &impl Abort,
     alloc: Global,
     session: &Session,
-    call: usize,
-    end: (usize, usize),
+    fails: Fails<'_>,
+    status: Status,
+    end: End,
 ) -> Result<(), Fail> {
-    let served = run_served(alloc, session, &[], &[], &[call as u64])?;
-    assert_eq!(rt; served.status, Status::LinkFault, "call {call}");
-    assert!(rt; is_served(session, &served, end.0, end.1), "call {call}");
+    let told = run_served(alloc, session, fails, end)?;
+    assert_eq!(rt; told, (status, true), "{fails:?}");
     Ok(())
+}
+
+/// Where these calls of the network fail.
+fn on_calls(calls: &[u64]) -> Fails<'_> {
+    Fails {
+        reads: &[],
+        writes: &[],
+        calls,
+    }
 }
 
 /// The session where each of these calls of the network fails, and where the next one would.
@@ -107,66 +148,79 @@ fn compare_calls(
     rt: &impl Abort,
     alloc: Global,
     session: &Session,
-    ends: &[(usize, usize)],
+    ends: &[End],
 ) -> Result<(), Fail> {
     for (call, end) in ends.iter().enumerate() {
-        compare_call(rt, alloc, session, call, *end)?;
+        let calls = [call as u64];
+        compare(
+            rt,
+            alloc,
+            session,
+            on_calls(&calls),
+            Status::LinkFault,
+            *end,
+        )?;
     }
-    let served = run_served(alloc, session, &[], &[], &[ends.len() as u64])?;
-    assert_eq!(rt; served.status, Status::Done);
-    assert!(rt; is_served(session, &served, 4, 1));
-    Ok(())
+    let calls = [ends.len() as u64];
+    compare(rt, alloc, session, on_calls(&calls), Status::Done, (4, 1))
 }
 
 /// The calls of the network by what fails: the ports, an arrival or a datagram; with how many lines were
 /// replied, and how many datagrams sent.
-const ENDS: [(usize, usize); 6] = [(2, 0), (3, 0), (3, 0), (3, 1), (3, 1), (3, 1)];
+const ENDS: [End; 6] = [(2, 0), (3, 0), (3, 0), (3, 1), (3, 1), (3, 1)];
 
 #[test]
 fn each_call_of_the_network(rt: HostRuntime) -> Result<(), Fail> {
     compare_calls(&rt, rt.alloc(), &SERVING, &ENDS)
 }
 
-/// The session where a read fails before which so many octets were read. The lines that end within these
-/// were taken.
-fn compare_read(
-    rt: &impl Abort,
-    alloc: Global,
-    session: &Session,
-    call: u64,
-    seen: usize,
-) -> Result<(), Fail> {
-    let served = run_served(alloc, session, &[call], &[], &[])?;
-    assert_eq!(rt; served.status, Status::ReadFault, "read {call}");
-    let read = session.lines.get(..seen).unwrap_or(session.lines);
-    let lines = count_lines(read);
-    assert!(rt;
-        is_served(session, &served, lines, usize::from(lines == 4)),
-        "read {call}"
-    );
-    Ok(())
+/// Where these reads fail.
+fn on_reads(reads: &[u64]) -> Fails<'_> {
+    Fails {
+        reads,
+        writes: &[],
+        calls: &[],
+    }
 }
 
-/// The session where each of so many reads fails, and where the next one would.
+/// What the session comes to where a read fails before which so many octets were read: the lines that end within
+/// these were taken.
+fn end_of(session: &Session, seen: usize) -> End {
+    let read = session.lines.get(..seen).unwrap_or(session.lines);
+    let lines = count_lines(read);
+    (lines, usize::from(lines == 4))
+}
+
+/// The session where each of so many reads fails, and where the next one would, which tells the end.
 fn compare_reads(
     rt: &impl Abort,
     alloc: Global,
     session: &Session,
-    reads: u64,
+    count: u64,
 ) -> Result<(), Fail> {
     let mut seen: usize = 0;
-    for call in 0..reads {
-        compare_read(rt, alloc, session, call, seen)?;
+    for call in 0..count {
+        let reads = [call];
+        let end = end_of(session, seen);
+        compare(rt, alloc, session, on_reads(&reads), Status::ReadFault, end)?;
         seen = seen.saturating_add(PIECE);
     }
-    let served = run_served(alloc, session, &[reads], &[], &[])?;
-    assert_eq!(rt; served.status, Status::Done, "the last read tells the end");
-    Ok(())
+    let reads = [count];
+    compare(rt, alloc, session, on_reads(&reads), Status::Done, (4, 1))
 }
 
 #[test]
 fn each_read(rt: HostRuntime) -> Result<(), Fail> {
     compare_reads(&rt, rt.alloc(), &SERVING, 6)
+}
+
+/// Where these writes fail.
+fn on_writes(writes: &[u64]) -> Fails<'_> {
+    Fails {
+        reads: &[],
+        writes,
+        calls: &[],
+    }
 }
 
 /// The session where a write fails. The files open to where it stands with the line in hand.
@@ -176,18 +230,26 @@ fn compare_write(
     session: &Session,
     call: usize,
 ) -> Result<(), Fail> {
-    let mut served = run_served(alloc, session, &[], &[call as u64], &[])?;
-    assert_eq!(rt; served.status, Status::WriteFault, "write {call}");
-    assert!(rt;
-        is_served(session, &served, call, usize::from(call == 3)),
-        "write {call}"
-    );
-    let (status, dump) = dumped(alloc, &mut served.a, &mut served.b)?;
-    assert_eq!(rt; status, Status::Done, "write {call}");
-    assert!(rt;
-        dump.bytes() == session.dump_behind(call.saturating_add(1)),
-        "write {call}"
-    );
+    let mut disks = make_disks(alloc, session.file, &[], &[])?;
+    let told = compare_on(rt, alloc, session, call, &mut disks);
+    drop(disks);
+    told
+}
+
+/// The same on these disks.
+fn compare_on(
+    rt: &impl Abort,
+    alloc: Global,
+    session: &Session,
+    call: usize,
+    disks: &mut Disks,
+) -> Result<(), Fail> {
+    let end = (call, usize::from(call == 3));
+    let told = run_on(alloc, session, on_writes(&[call as u64]), end, disks)?;
+    assert_eq!(rt; told, (Status::WriteFault, true), "write {call}");
+    let dump = session.dump_behind(call.saturating_add(1));
+    let dumped = runs(alloc, &["dump"], &[], 1, disks, dump)?;
+    assert_eq!(rt; dumped, (Status::Done, true), "write {call}");
     Ok(())
 }
 
@@ -196,14 +258,13 @@ fn compare_writes(
     rt: &impl Abort,
     alloc: Global,
     session: &Session,
-    writes: usize,
+    count: usize,
 ) -> Result<(), Fail> {
-    for call in 0..writes {
+    for call in 0..count {
         compare_write(rt, alloc, session, call)?;
     }
-    let served = run_served(alloc, session, &[], &[writes as u64], &[])?;
-    assert_eq!(rt; served.status, Status::Done, "all writes");
-    Ok(())
+    let writes = [count as u64];
+    compare(rt, alloc, session, on_writes(&writes), Status::Done, (4, 1))
 }
 
 #[test]

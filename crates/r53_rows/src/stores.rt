@@ -1,13 +1,16 @@
 //! A store from its making on: `init`, `run` and `dump` over the same two disks, and over what a crash
 //! leaves of them.
+//!
+//! What a run is over is owned by one function, which makes it, lends it to the next and drops it: so its drop is
+//! proved once, and not at each exit of a test.
 
 ghost use Rattle.std.specs.Prelude.{◌≤◌};
 
 use crate::lines::{CHECKS, EMPTY, FIRST_ZONE};
 use crate::once::words;
-use octets::OutOfMemory;
+use crate::two_disks::{Disks, behind_crash, empty_disks, make_disks};
 use r53_cli::{Side, Status, run};
-use r53_disk::{MemoryDisk, Torn};
+use r53_disk::Torn;
 use r53_io::{ListSource, ScriptLink, VecSink};
 use rand_chacha::ChaCha8Rng;
 use rand_core::SeedableRng;
@@ -15,119 +18,171 @@ use std::alloc::Global;
 use std::process::Abort;
 use std::test::Fail;
 
-/// The least room of a disk, and the room of an output, in octets.
+/// The room of an output, in octets.
 const ROOM: usize = 4096;
 
-/// What a run over these disks answers, and what it writes, where nothing comes from the network.
+/// How a run over these disks ends whose input is these octets, in pieces of so many, where the reads of these
+/// numbers fail and nothing comes from the network.
 pub(crate) fn run_words(
     alloc: Global,
     texts: &[&str],
-    input: ListSource,
-    sink: VecSink,
-    a: &mut MemoryDisk,
-    b: &mut MemoryDisk,
-) -> Result<(Status, VecSink), Fail> {
+    octets: &[u8],
+    piece: usize,
+    fails: &[u64],
+    sink: &mut VecSink,
+    disks: &mut Disks,
+) -> Result<Status, Fail>
+    requires { 1 ≤ piece }
+{
     let mut link = ScriptLink::new(alloc, Vec::new(alloc), &[])?;
-    run_linked(alloc, texts, input, sink, a, b, &mut link)
+    let ended = run_linked(alloc, texts, octets, piece, fails, sink, disks, &mut link);
+    drop(link);
+    ended
 }
 
 /// The same over a network.
 pub(crate) fn run_linked(
     alloc: Global,
     texts: &[&str],
-    mut input: ListSource,
-    mut sink: VecSink,
-    a: &mut MemoryDisk,
-    b: &mut MemoryDisk,
+    octets: &[u8],
+    piece: usize,
+    fails: &[u64],
+    sink: &mut VecSink,
+    disks: &mut Disks,
     link: &mut ScriptLink,
-) -> Result<(Status, VecSink), Fail> {
+) -> Result<Status, Fail>
+    requires { 1 ≤ piece }
+{
+    let mut input = ListSource::new(alloc, octets, piece, fails)?;
+    let ended = run_input(alloc, texts, &mut input, sink, disks, link);
+    drop(input);
+    ended
+}
+
+/// The same with an input.
+fn run_input(
+    alloc: Global,
+    texts: &[&str],
+    input: &mut ListSource,
+    sink: &mut VecSink,
+    disks: &mut Disks,
+    link: &mut ScriptLink,
+) -> Result<Status, Fail> {
     let args = words(alloc, texts)?;
+    let ended = run_args(alloc, &args, input, sink, disks, link);
+    drop(args);
+    ended
+}
+
+/// The same with the words of a command line, and no tables.
+fn run_args(
+    alloc: Global,
+    args: &[String],
+    input: &mut ListSource,
+    sink: &mut VecSink,
+    disks: &mut Disks,
+    link: &mut ScriptLink,
+) -> Result<Status, Fail> {
     let mut tables = ListSource::new(alloc, &[], 1, &[])?;
     let mut words = ChaCha8Rng::from_seed([0; 32]);
     let status = run(
         alloc,
-        &args,
-        &mut input,
+        args,
+        input,
         &mut tables,
-        &mut sink,
-        a,
-        b,
+        sink,
+        &mut disks.a,
+        &mut disks.b,
         link,
         &mut words,
     );
-    Ok((status, sink))
+    drop(tables);
+    Ok(status)
 }
 
-/// The same without a fault of the streams, and whether it wrote these octets.
+/// How a run ended, with what was found of it.
+pub(crate) fn with<T: Copy>(ended: Result<Status, Fail>, found: T) -> Result<(Status, T), Fail> {
+    match ended {
+        Ok(status) => Ok((status, found)),
+        Err(fail) => Err(fail),
+    }
+}
+
+/// How a run ends where no stream fails, and whether it wrote these octets.
 pub(crate) fn runs(
     alloc: Global,
-    text: &str,
-    input: &[u8],
-    a: &mut MemoryDisk,
-    b: &mut MemoryDisk,
+    texts: &[&str],
+    octets: &[u8],
+    piece: usize,
+    disks: &mut Disks,
     written: &[u8],
-) -> Result<(Status, bool), Fail> {
-    let input = ListSource::new(alloc, input, 100, &[])?;
-    let sink = VecSink::new(alloc, ROOM, &[])?;
-    let (status, sink) = run_words(alloc, &[text], input, sink, a, b)?;
-    Ok((status, sink.bytes() == written))
+) -> Result<(Status, bool), Fail>
+    requires { 1 ≤ piece }
+{
+    let mut sink = VecSink::new(alloc, ROOM, &[])?;
+    let ended = run_words(alloc, texts, octets, piece, &[], &mut sink, disks);
+    let told = with(ended, sink.bytes() == written);
+    drop(sink);
+    told
 }
 
-/// What a store dumps as.
-pub(crate) fn dumped(
+/// A run of this word ends so, and writes these octets.
+fn check(
+    rt: &impl Abort,
     alloc: Global,
-    a: &mut MemoryDisk,
-    b: &mut MemoryDisk,
-) -> Result<(Status, VecSink), Fail> {
-    let input = ListSource::new(alloc, &[], 1, &[])?;
-    let sink = VecSink::new(alloc, ROOM, &[])?;
-    run_words(alloc, &["dump"], input, sink, a, b)
-}
-
-/// A disk with these octets, of which these calls fail.
-pub(crate) fn disk(alloc: Global, octets: &[u8], fail: &[u64]) -> Result<MemoryDisk, OutOfMemory> {
-    let room = octets.len().max(ROOM);
-    MemoryDisk::new(alloc, octets, room as u64, fail)
-}
-
-/// A disk that holds what a crash left of another.
-pub(crate) fn behind_crash(
-    alloc: Global,
-    before: &MemoryDisk,
-    torn: Torn,
-) -> Result<MemoryDisk, Fail> {
-    let image = before.image(torn)?;
-    Ok(disk(alloc, &image, &[])?)
+    text: &str,
+    octets: &[u8],
+    disks: &mut Disks,
+    status: Status,
+    written: &[u8],
+) -> Result<(), Fail> {
+    let told = runs(alloc, &[text], octets, 100, disks, written)?;
+    assert_eq!(rt; told, (status, true), "{text}");
+    Ok(())
 }
 
 #[test]
 fn a_store_from_its_making(rt: HostRuntime) -> Result<(), Fail> {
-    let alloc = rt.alloc();
-    let mut a = disk(alloc, &[], &[])?;
-    let mut b = disk(alloc, &[], &[])?;
-    let told = runs(alloc, "run", CHECKS.lines, &mut a, &mut b, &[])?;
-    assert_eq!(rt; told, (Status::NotAStore(Side::A, 0), true));
-    assert_eq!(rt;
-        runs(alloc, "init", &[], &mut a, &mut b, &[])?,
-        (Status::Done, true)
+    let mut disks = empty_disks(rt.alloc(), 4096)?;
+    let made = from_its_making(&rt, rt.alloc(), &mut disks);
+    drop(disks);
+    made
+}
+
+/// A store is made on disks with nothing in them, and runs.
+fn from_its_making(rt: &impl Abort, alloc: Global, disks: &mut Disks) -> Result<(), Fail> {
+    let none = Status::NotAStore(Side::A, 0);
+    check(rt, alloc, "run", CHECKS.lines, disks, none, &[])?;
+    check(rt, alloc, "init", &[], disks, Status::Done, &[])?;
+    let made = Status::AlreadyAStore(Side::A);
+    check(rt, alloc, "init", &[], disks, made, &[])?;
+    check(rt, alloc, "dump", &[], disks, Status::Done, &[])?;
+    check(
+        rt,
+        alloc,
+        "run",
+        CHECKS.lines,
+        disks,
+        Status::Done,
+        CHECKS.replies,
+    )?;
+    behind_its_crash(rt, alloc, disks)
+}
+
+/// What a crash leaves of it dumps as it was.
+fn behind_its_crash(rt: &impl Abort, alloc: Global, before: &Disks) -> Result<(), Fail> {
+    let mut disks = behind_crash(alloc, before, Torn::Lost, Torn::Lost)?;
+    let dumped = check(
+        rt,
+        alloc,
+        "dump",
+        &[],
+        &mut disks,
+        Status::Done,
+        CHECKS.dump_behind(4),
     );
-    let told = runs(alloc, "init", &[], &mut a, &mut b, &[])?;
-    assert_eq!(rt; told, (Status::AlreadyAStore(Side::A), true));
-    assert_eq!(rt;
-        runs(alloc, "dump", &[], &mut a, &mut b, &[])?,
-        (Status::Done, true)
-    );
-    assert_eq!(rt;
-        runs(alloc, "run", CHECKS.lines, &mut a, &mut b, CHECKS.replies)?,
-        (Status::Done, true)
-    );
-    let mut a = behind_crash(alloc, &a, Torn::Lost)?;
-    let mut b = behind_crash(alloc, &b, Torn::Lost)?;
-    assert_eq!(rt;
-        runs(alloc, "dump", &[], &mut a, &mut b, CHECKS.dump_behind(4))?,
-        (Status::Done, true)
-    );
-    Ok(())
+    drop(disks);
+    dumped
 }
 
 /// How a run over a store with nothing in it ends whose input comes in pieces of so many octets, and
@@ -135,20 +190,32 @@ fn a_store_from_its_making(rt: HostRuntime) -> Result<(), Fail> {
 fn runs_in_pieces(alloc: Global, piece: usize) -> Result<(Status, bool), Fail>
     requires { 1 ≤ piece }
 {
-    let mut a = disk(alloc, EMPTY, &[])?;
-    let mut b = disk(alloc, &[], &[])?;
-    let input = ListSource::new(alloc, FIRST_ZONE.lines, piece, &[])?;
-    let sink = VecSink::new(alloc, ROOM, &[])?;
-    let (status, sink) = run_words(alloc, &["run"], input, sink, &mut a, &mut b)?;
-    Ok((status, sink.bytes() == FIRST_ZONE.replies))
+    let mut disks = make_disks(alloc, EMPTY, &[], &[])?;
+    let told = runs(
+        alloc,
+        &["run"],
+        FIRST_ZONE.lines,
+        piece,
+        &mut disks,
+        FIRST_ZONE.replies,
+    );
+    drop(disks);
+    told
+}
+
+/// An input in pieces of so many octets is replied to.
+fn check_pieces(rt: &impl Abort, alloc: Global, piece: usize) -> Result<(), Fail>
+    requires { 1 ≤ piece }
+{
+    let told = runs_in_pieces(alloc, piece)?;
+    assert_eq!(rt; told, (Status::Done, true), "pieces of {piece}");
+    Ok(())
 }
 
 #[test]
 fn an_input_in_pieces(rt: HostRuntime) -> Result<(), Fail> {
-    let alloc = rt.alloc();
-    assert_eq!(rt; runs_in_pieces(alloc, 1)?, (Status::Done, true));
-    assert_eq!(rt; runs_in_pieces(alloc, 2)?, (Status::Done, true));
-    assert_eq!(rt; runs_in_pieces(alloc, 7)?, (Status::Done, true));
-    assert_eq!(rt; runs_in_pieces(alloc, 4096)?, (Status::Done, true));
-    Ok(())
+    check_pieces(&rt, rt.alloc(), 1)?;
+    check_pieces(&rt, rt.alloc(), 2)?;
+    check_pieces(&rt, rt.alloc(), 7)?;
+    check_pieces(&rt, rt.alloc(), 4096)
 }

@@ -14,6 +14,7 @@ use crate::script::{Script, take_line};
 use crate::stop::Stop;
 use scenario_words::{Fault, line_feeds, whole_len};
 use std::alloc::Global;
+use std::mem::replace;
 
 /// What playing a scenario came to: how many lines were met, and where it first differs.
 #[derive(Drop)]
@@ -25,6 +26,13 @@ pub struct Outcome {
 /// Plays a scenario.
 pub fn played(alloc: Global, text: &[u8]) -> Result<Outcome, Stop> {
     let mut files = new_files(alloc)?;
+    let outcome = played_on(alloc, text, &mut files);
+    drop(files);
+    outcome
+}
+
+/// The same on these files.
+fn played_on(alloc: Global, text: &[u8], files: &mut Files) -> Result<Outcome, Stop> {
     let mut rest = text;
     let mut number: u64 = 1;
     let mut met: u64 = 0;
@@ -33,19 +41,61 @@ pub fn played(alloc: Global, text: &[u8]) -> Result<Outcome, Stop> {
             break;
         }
         let (part, behind) = rest.split_at(run_len(rest));
-        let script = script_of(alloc, part, number)?;
-        files = files_of(alloc, &files, &script)?;
-        let came = run(alloc, script, &mut files)?;
-        let mut stage = begin(alloc, came);
-        let differs = compare(alloc, part, number, &files, &mut stage)?;
-        met = met.saturating_add(stage.met);
-        if differs.is_some() {
-            return Ok(Outcome { met, differs });
+        let outcome = run_played(alloc, part, number, files)?;
+        met = met.saturating_add(outcome.met);
+        match outcome.differs {
+            Some(found) => {
+                return Ok(Outcome {
+                    met,
+                    differs: Some(found),
+                });
+            }
+            None => {}
         }
         number = number.saturating_add(line_feeds(part));
         rest = behind;
     }
     Ok(Outcome { met, differs: None })
+}
+
+/// Plays a run that begins at the line of a number, on what the run before left of the files.
+fn run_played(alloc: Global, part: &[u8], number: u64, files: &mut Files) -> Result<Outcome, Stop> {
+    let mut script = script_of(alloc, part, number)?;
+    let outcome = script_played(alloc, part, number, &mut script, files);
+    drop(script);
+    outcome
+}
+
+/// The same with what it is over.
+fn script_played(
+    alloc: Global,
+    part: &[u8],
+    number: u64,
+    script: &mut Script,
+    files: &mut Files,
+) -> Result<Outcome, Stop> {
+    let begun = files_of(alloc, files, script)?;
+    drop(replace(files, begun));
+    let came = run(alloc, script, files)?;
+    let mut stage = begin(alloc, came);
+    let outcome = compared(alloc, part, number, files, &mut stage);
+    drop(stage);
+    outcome
+}
+
+/// What comparing a run with its scenario comes to.
+fn compared(
+    alloc: Global,
+    part: &[u8],
+    number: u64,
+    files: &Files,
+    stage: &mut Stage,
+) -> Result<Outcome, Stop> {
+    let differs = compare(alloc, part, number, files, stage)?;
+    Ok(Outcome {
+        met: stage.met,
+        differs,
+    })
 }
 
 /// How many octets the first run has: up to its end, and what is said of the end.

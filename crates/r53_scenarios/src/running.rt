@@ -12,6 +12,7 @@ use r53_disk::{MemoryDisk, Torn};
 use r53_io::{ListSource, ScriptLink, Scripted, VecSink};
 use session_run::{Ran, run_session};
 use std::alloc::Global;
+use std::mem::replace;
 use zone_journal::{Init, init};
 
 /// The room of a disk, and the most octets of a file that a scenario gives.
@@ -116,29 +117,74 @@ fn fits(arrival: &Scripted) -> bool
 /// The link to which the arrivals of a script come.
 fn link_of(alloc: Global, arrivals: Vec<Scripted>, fails: &[u64]) -> Result<ScriptLink, Stop> {
     if !all_fit(&arrivals) {
+        drop(arrivals);
         return Err(Stop::TooMuch);
     }
     Ok(ScriptLink::new(alloc, arrivals, fails)?)
 }
 
-/// Runs a script on files.
-pub fn run(alloc: Global, script: Script, files: &mut Files) -> Result<Came, Stop> {
-    let setting = script.setting;
-    let piece = setting.piece.max(1) as usize;
-    let mut input = ListSource::new(alloc, &script.input, piece, &setting.input_fails)?;
-    let mut tables = ListSource::new(alloc, &script.tables, piece, &setting.tables_fail)?;
-    let mut out = VecSink::new(alloc, MOST_WRITTEN, &setting.output_fails)?;
-    let mut link = link_of(alloc, script.arrivals, &setting.network_fails)?;
-    let mut words = ScriptWords::new(script.words);
+/// What a run works with, beside the files.
+#[derive(Drop)]
+struct Streams {
+    input: ListSource,
+    tables: ListSource,
+    words: ScriptWords,
+}
+
+/// The input of a script, its tables and its random words, which are taken from it.
+fn streams_of(alloc: Global, script: &mut Script) -> Result<Streams, Stop> {
+    let piece = script.setting.piece.max(1) as usize;
+    let input = ListSource::new(alloc, &script.input, piece, &script.setting.input_fails)?;
+    let fails = &script.setting.tables_fail;
+    match ListSource::new(alloc, &script.tables, piece, fails) {
+        Ok(tables) => {
+            let words = ScriptWords::new(replace(&mut script.words, Vec::new(alloc)));
+            Ok(Streams {
+                input,
+                tables,
+                words,
+            })
+        }
+        Err(fault) => {
+            drop(input);
+            Err(Stop::from(fault))
+        }
+    }
+}
+
+/// Runs a script on files. Its arrivals and its random words are taken from it.
+pub fn run(alloc: Global, script: &mut Script, files: &mut Files) -> Result<Came, Stop> {
+    let mut streams = streams_of(alloc, script)?;
+    let came = run_over(alloc, script, &mut streams, files);
+    drop(streams);
+    came
+}
+
+/// The same with these streams.
+fn run_over(
+    alloc: Global,
+    script: &mut Script,
+    streams: &mut Streams,
+    files: &mut Files,
+) -> Result<Came, Stop> {
+    let arrivals = replace(&mut script.arrivals, Vec::new(alloc));
+    let mut link = link_of(alloc, arrivals, &script.setting.network_fails)?;
+    let mut out = match VecSink::new(alloc, MOST_WRITTEN, &script.setting.output_fails) {
+        Ok(out) => out,
+        Err(fault) => {
+            drop(link);
+            return Err(Stop::from(fault));
+        }
+    };
     let ran = run_session(
         alloc,
-        &mut input,
-        &mut tables,
+        &mut streams.input,
+        &mut streams.tables,
         &mut out,
         &mut files.a,
         &mut files.b,
         &mut link,
-        &mut words,
+        &mut streams.words,
     );
     Ok(Came { ran, out, link })
 }

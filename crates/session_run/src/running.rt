@@ -135,8 +135,15 @@ fn open_session<S: Source, D: Disk, L: Link, R: Rng, K: Sink>(
         (L.faults link.new) (K.faults out.old) (K.faults out.new) }
 {
     match LineReader::new(alloc) {
-        Ok(mut reader) => open_over(alloc, rows, &mut reader, input, out, a, b, link, words),
-        Err(_) => Ran::OutOfMemory,
+        Ok(mut reader) => {
+            let ran = open_over(alloc, rows, &mut reader, input, out, a, b, link, words);
+            drop(reader);
+            ran
+        }
+        Err(_) => {
+            drop(rows);
+            Ran::OutOfMemory
+        }
     }
 }
 
@@ -184,7 +191,10 @@ fn open_over<S: Source, D: Disk, L: Link, R: Rng, K: Sink>(
             Some(how) => Ran::Ended(how),
             None => Ran::OutOfMemory,
         },
-        Err(fault) => unopened(fault),
+        Err(fault) => {
+            drop(rows);
+            unopened(fault)
+        }
     }
 }
 
@@ -241,15 +251,12 @@ fn run_over<S: Source, D: Disk, L: Link, R: Rng, K: Sink>(
     match Server::new(alloc, store, rows) {
         Ok(mut server) => {
             let how = go_on(alloc, reader, &mut server, input, a, b, link, words, out);
-            give_back(server);
+            drop(server);
             Some(how)
         }
         Err(_) => None,
     }
 }
-
-/// Gives back what a server holds.
-fn give_back(_server: Server) {}
 
 /// Takes the lines of an input from its beginning by a server.
 fn go_on<S: Source, D: Disk, L: Link, R: Rng, K: Sink>(

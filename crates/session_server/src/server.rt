@@ -73,7 +73,11 @@ impl Server {
           bound = false;
         }) }
     {
-        let buffers = Buffers::new(alloc)?;
+        let Ok(buffers) = Buffers::new(alloc) else {
+            drop(tables);
+            drop(store);
+            return Err(OutOfMemory);
+        };
         Ok(Server {
             store,
             tables,
