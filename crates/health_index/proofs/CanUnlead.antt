@@ -25,7 +25,7 @@ use Rattle.zone_model.specs.Slotted.{IsHere, Slotted}
 use Rattle.zone_model.specs.Zones.{is_of_group}
 
 -- valves that stand for two nets are fed alike in both
-fed_in_both : (valves : Valves) (net other : Net) (own own_two : ℕ → ℕ) → ValvesStandFor net own valves
+pub fed_in_both : (valves : Valves) (net other : Net) (own own_two : ℕ → ℕ) → ValvesStandFor net own valves
     → ValvesStandFor other own_two valves → (x y : ℕ) → y < net.size → Feeds net x y → Feeds other x y
 fed_in_both valves net other own own_two first second x y within fed =
     let one = first.laid.size in

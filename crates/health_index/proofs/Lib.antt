@@ -3,6 +3,7 @@ pub mod Again
 pub mod Behind
 pub mod CanCome
 pub mod CanRegroup
+pub mod CanUnfound
 pub mod CanUnlead
 pub mod Commanded
 pub mod Commanding
@@ -40,4 +41,5 @@ pub use Rattle.health_standing.proofs.Regrouped
 pub use Rattle.health_standing.proofs.Reseated
 pub use Rattle.health_standing.proofs.Slots
 pub use Rattle.health_standing.proofs.Staying
+pub use Rattle.health_standing.proofs.Unfounded
 pub use Rattle.health_standing.proofs.Unled

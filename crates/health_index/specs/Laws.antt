@@ -30,6 +30,7 @@ use Rattle.health_index.specs.Founding.{ComesFirst}
 use Rattle.health_index.specs.Leading.{ComesToLead}
 use Rattle.health_index.specs.Room.{HasRoom, HasRoomForAlias, HasRoomForFirst, IsLaidAnew}
 use Rattle.health_index.specs.Regrouping.{HasCome, HasGone, JoinsGroup, LeavesGroup, TellNoOther}
+use Rattle.health_index.specs.Unfounding.{LeavesLast}
 use Rattle.health_index.specs.Unleading.{LeavesValve}
 use Rattle.health_index.specs.Values.{AreValues, MeetsIn}
 
@@ -120,6 +121,17 @@ AliasesCanLeave = (before after : List Zone) (checks : Checks) (reports : List R
     → p.slot ≡ ref.slot → p.set.body ≡ body.Alias name true
     → (IsLedTo before ref.zone p.set.name p.set.rtype → ⊥) → IsLedTo after ref.zone name p.set.rtype
     → (valve : ℕ) × LeavesValve after index.seats index.valves ref valve
+
+-- Where none leads any more where such an alias led that went, its seat and the valves tell all that is wanted to leave
+-- its valve without a node, and that of its target group.
+abbrev pub LastCanLeave : Type 0
+LastCanLeave = (before after : List Zone) (checks : Checks) (reports : List Report) (index : Index)
+    (made : ZoneEdit) (delta : Delta) (ref : SetRef) (p : Slotted) (name : List (List ℕ))
+    → StandsFor before checks reports index → AreZones after → IsAllowed before made
+    → Edits before made after delta → HasGone delta ref → IsHere (placed_in before ref.zone) p
+    → p.slot ≡ ref.slot → p.set.body ≡ body.Alias name true
+    → (IsLedTo before ref.zone p.set.name p.set.rtype → ⊥) → (IsLedTo after ref.zone name p.set.rtype → ⊥)
+    → (valve : ℕ) × ((group : ℕ) × LeavesLast after index.seats index.valves ref valve group)
 
 -- Where an evaluated alias came by an edit, of a group to which none leads, and another one leads where it leads,
 -- seats tell all that is wanted to give it a valve. The check that it names, if it names one, is there.

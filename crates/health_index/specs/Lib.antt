@@ -22,4 +22,5 @@ pub use Rattle.health_standing.specs.Kin
 pub use Rattle.health_standing.specs.Leading
 pub use Rattle.health_standing.specs.Leaving
 pub use Rattle.health_standing.specs.Regrouping
+pub use Rattle.health_standing.specs.Unfounding
 pub use Rattle.health_standing.specs.Unleading

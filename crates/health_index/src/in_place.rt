@@ -19,6 +19,7 @@ ghost use Rattle.health_index.specs.Leaving.{AreLeft, SparesValves};
 ghost use Rattle.health_index.specs.Regrouping.{HasCome, HasGone, Joins, JoinsGroup, Leaves};
 ghost use Rattle.health_index.specs.Regrouping.{LeavesGroup, TellNoOther};
 ghost use Rattle.health_index.specs.Room.{AddsFew, HasAsMuch, HasRoom, HasRoomForAlias, HasRoomForFirst};
+ghost use Rattle.health_index.specs.Unfounding.{LeavesLast, Unfounds};
 ghost use Rattle.health_index.specs.Unleading.{LeavesValve, Unleads};
 ghost use Rattle.health_planning.specs.Wired.{group_seat, is_watched, watched_of};
 ghost use Rattle.health_model.specs.Sound.{IsSound};
@@ -40,8 +41,9 @@ use health_check::CheckTable;
 use health_model::paths_end;
 use health_planning::{Delta, MOST_CHECKS, SetRef, Zones, number_at, seat_beside};
 use health_standing::{
-    alias_come, first_come, group_joined, group_left, note_those, one_come, one_gone, own_in,
-    push_alias, push_first, put_seat, seat_first, seat_in, spares_valves, valve_left,
+    alias_come, first_come, group_joined, group_left, last_left, note_those, one_come, one_gone,
+    own_in, push_alias, push_first, put_seat, seat_first, seat_in, seat_without, spares_valves,
+    valve_left,
 };
 
 impl HealthIndex {
@@ -86,7 +88,7 @@ impl HealthIndex {
     }
 
     /// Takes a command by which one set that nothing decides came into a group with a valve, or went from one,
-    /// or one with a valve of its own went, or an evaluated alias came. The answer is whether it is one, and there
+    /// or one with a valve of its own went, as an evaluated alias has, or an evaluated alias came. The answer is whether it is one, and there
     /// is room to note the set; else the index stays as it is. It takes no memory.
     pub(crate) fn regroup(&mut self, zones: &Zones, checks: &CheckTable, delta: &Delta) -> bool
         requires room { HasRoom self.old zones.now.slots }
@@ -110,6 +112,9 @@ impl HealthIndex {
         ensures unled { (ref : SetRef) (valve : ℕ) → HasGone delta.now ref
             → LeavesValve zones.now.zones self.old.seats self.old.valves ref valve
             → (result ≡ true) × Unleads ref valve self.old self.new }
+        ensures unfounded { (ref : SetRef) (valve group : ℕ) → HasGone delta.now ref
+            → LeavesLast zones.now.zones self.old.seats self.old.valves ref valve group
+            → (result ≡ true) × Unfounds ref valve group self.old self.new }
         ensures led { (ref : SetRef) (feeders : List ℕ) → HasCome delta.now ref
             → ComesToLead zones.now.zones self.old.ids self.old.numbers self.old.seats self.old.valves ref feeders
             → HasRoomForAlias self.old zones.now.slots
@@ -124,7 +129,10 @@ impl HealthIndex {
             if self.leave(zones, checks, delta, set) {
                 return true;
             }
-            return self.unlead(zones, checks, delta, set);
+            if self.unlead(zones, checks, delta, set) {
+                return true;
+            }
+            return self.unfound(zones, checks, delta, set);
         }
         if let Some(set) = one_come(delta) {
             if self.join(zones, checks, delta, set) {
@@ -174,6 +182,8 @@ impl HealthIndex {
             → StandsFor zones.now.zones checks.now.checks reports self.new }
         ensures adds { AddsFew zones.now.slots self.old self.new }
         ensures stays { result ≡ false → self.new ≡ self.old }
+        ensures another { result ≡ true → (valve group : ℕ)
+            → LeavesLast zones.now.zones self.old.seats self.old.valves set valve group → ⊥ }
         ensures unled { (valve : ℕ)
             → LeavesValve zones.now.zones self.old.seats self.old.valves set valve
             → (result ≡ true) × Unleads set valve self.old self.new }
@@ -185,6 +195,32 @@ impl HealthIndex {
         };
         self.valves.unfeed(valve);
         put_seat(&mut self.seats, set.slot, 0);
+        true
+    }
+
+    /// Takes a command by which one set alone went that has a valve of its own, which that of a group alone fed, as
+    /// the last evaluated alias has that leads to the group.
+    fn unfound(&mut self, zones: &Zones, checks: &CheckTable, delta: &Delta, set: SetRef) -> bool
+        requires sound { IsSound (watched_of zones.now.zones checks.now.checks) }
+        requires gone { HasGone delta.now set }
+        ensures stands { (before : List Zone) (old : Checks) (reports : List Report)
+            → StandsFor before old reports self.old
+            → AreLeft before old zones.now.zones checks.now.checks delta.now → result ≡ true
+            → StandsFor zones.now.zones checks.now.checks reports self.new }
+        ensures adds { AddsFew zones.now.slots self.old self.new }
+        ensures stays { result ≡ false → self.new ≡ self.old }
+        ensures unfounded { (valve group : ℕ)
+            → LeavesLast zones.now.zones self.old.seats self.old.valves set valve group
+            → (result ≡ true) × Unfounds set valve group self.old self.new }
+    {
+        zones.well_formed();
+        zones.slots_apart();
+        let Some(last) = last_left(zones, &self.seats, &self.valves, set) else {
+            return false;
+        };
+        self.valves.unfeed(last.valve);
+        self.valves.unfeed(last.group);
+        seat_without(&mut self.seats, &self.members, set.slot, last.group);
         true
     }
 

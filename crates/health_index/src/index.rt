@@ -22,6 +22,7 @@ ghost use Rattle.health_index.specs.Regrouping.{HasCome, HasGone, Joins, JoinsGr
 ghost use Rattle.health_index.specs.Regrouping.{LeavesGroup, TellNoOther};
 ghost use Rattle.health_index.specs.Room.{AddsFew, HasRoom, HasRoomForAlias, HasRoomForFirst};
 ghost use Rattle.health_index.specs.Room.{IsLaidAnew, Keeps};
+ghost use Rattle.health_index.specs.Unfounding.{LeavesLast, Unfounds};
 ghost use Rattle.health_index.specs.Unleading.{LeavesValve, Unleads};
 ghost use Rattle.health_index.specs.Values.{WorksOut};
 ghost use Rattle.health_planning.specs.Wired.{watched_of};
@@ -223,11 +224,15 @@ impl HealthIndex {
     /// numbers of checks. Where one set alone went or came, nothing decides it, and an evaluated alias
     /// leads to its group, it costs a look at that group, and what stands above it where its value
     /// changes. Where an evaluated alias alone went, of a group to which none leads, and another one leads
-    /// to its target group, it costs a look at what fed its valve, which goes on without a node. Where one
-    /// alone came, of a group to which none leads, and another one leads to its target group, it costs a look at
-    /// its group and at the first set of its target group: its valve comes behind all. Valves that went on
+    /// to its target group, it costs a look at what fed its valve, which goes on without a node. Where none leads
+    /// there any more, that group's valve does so too, and it costs a look at the seats of the sets that were noted in
+    /// groups with valves besides. Where one alone came, of a group to which none leads, and another one leads to its
+    /// target group, it costs a look at its group and at the first set of its target group: its valve comes behind all.
+    /// Where it is the first that leads to its target group, and nothing decides any set of that, it costs a look at
+    /// both groups: a valve for the target group and one for the alias come behind all. Valves that went on
     /// without a node take room until all are laid out anew, and so do the aliases in the list of sets with
-    /// valves; where there is none for one more, all is laid out anew.
+    /// valves, and the sets that were noted in groups with valves; where there is no room for what comes, all is
+    /// laid out anew.
     ///
     /// Where it tells of no zone, and no calculated check came, went or got other children: where
     /// checks have the numbers of those before, as after UpdateHealthCheck, or one of an endpoint came
@@ -277,6 +282,12 @@ impl HealthIndex {
         ensures unled { (ref : SetRef) (valve : ℕ) → HasGone delta.now ref
             → LeavesValve zones.now.zones self.old.seats self.old.valves ref valve
             → Unleads ref valve self.old self.new }
+
+        // Where it was the last that led there, nothing feeds its valve any more, and nothing that of the group, and
+        // their seats change: nothing else does.
+        ensures unfounded { (ref : SetRef) (valve group : ℕ) → HasGone delta.now ref
+            → LeavesLast zones.now.zones self.old.seats self.old.valves ref valve group
+            → Unfounds ref valve group self.old self.new }
 
         // Where one evaluated alias came, of a group without a valve, and its target group has one, as another
         // leads there, there is one valve more, which that of the group and that of its check feed, and a seat

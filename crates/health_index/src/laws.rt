@@ -2,7 +2,8 @@
 
 ghost use Rattle.health_index.specs.Laws.{AliasesCanCome, AliasesCanLeave, AliasesHaveRoom, ChecksAreLater};
 ghost use Rattle.health_index.specs.Laws.{ChecksCanFollow, CommandsCanFollow, NodesAreNumbered, NodesHaveValues};
-ghost use Rattle.health_index.specs.Laws.{FirstCanCome, IndexTells, SetsCanJoin, SetsCanLeave, StandsWhereAllMeet};
+ghost use Rattle.health_index.specs.Laws.{FirstCanCome, IndexTells, LastCanLeave, SetsCanJoin, SetsCanLeave};
+ghost use Rattle.health_index.specs.Laws.{StandsWhereAllMeet};
 
 use health_model::one_health;
 use health_planning::views_agree;
@@ -54,6 +55,12 @@ pub fn sets_can_regroup()
 /// while another one leads to its target group, the index has what it wants to leave its valve vacant.
 pub fn aliases_can_leave()
     ensures { AliasesCanLeave }
+{}
+
+/// Where an index stands for zones, and an evaluated alias goes by an edit, of a group to which none leads, and none
+/// leads to its target group any more, the index has what it wants to leave both valves vacant.
+pub fn last_can_leave()
+    ensures { LastCanLeave }
 {}
 
 /// Where an index stands for zones, and an evaluated alias comes by an edit, of a group to which none leads, while

@@ -5,14 +5,15 @@
 //! whose health counts. Room for a valve is kept all the same, so that no command wants memory.
 //!
 //! The valves are planned (`health_planning`), and then laid out. After a command this is done anew, in room that was
-//! made before (`reserving`), but where little changes (`in_place`). So it is where no valve changes by the sets that
-//! went and came (`valve_leaving`): then all stays as it is, or their seats alone change; and where one set that
-//! nothing decides came or went (`regrouping`): then how many such sets its group counts does; or one evaluated
-//! alias, beside another with its target group: then its valve comes behind all (`alias_coming`), or goes on without a
-//! node (`unleading`); or the first one that leads to a group in which nothing decides a set (`founding`): then that
-//! group gets a valve too. These are of `health_standing`. And where checks keep their numbers, or one of an endpoint
-//! comes or goes, and no calculated check gets other children (`kin`, `following`): then the valves of checks change in
-//! place. Each other check keeps its valve (`valve_numbers`), also where all is laid out anew.
+//! made before (`reserving`), but not where little changes (`index` asks, `in_place` does it). So it is where no valve
+//! changes by the sets that went and came (`valve_leaving`): then all stays as it is, or their seats alone change; and
+//! where one set that nothing decides came or went (`regrouping`): then how many such sets its group counts does; or one
+//! evaluated alias, beside another with its target group: then its valve comes behind all (`alias_coming`), or goes on
+//! without a node (`unleading`); or the first one that leads to a group in which nothing decides a set (`founding`): then
+//! that group gets a valve too; or the last one that leads to a group (`unfounding`): then that group's valve goes on
+//! without a node too. These are of `health_standing`. And where checks keep their numbers, or one of an endpoint comes or
+//! goes, and no calculated check gets other children (`kin`, `following`): then the valves of checks change in place. Each
+//! other check keeps its valve (`valve_numbers`), also where all is laid out anew.
 #![tactic(auto)]
 
 mod following;
@@ -29,5 +30,6 @@ pub use health_valves::Steps;
 pub use index::HealthIndex;
 pub use laws::{
     aliases_can_come, aliases_can_leave, aliases_have_room, checks_are_later, checks_can_follow,
-    first_can_come, index_tells_health, nodes_are_numbered, nodes_have_values, sets_can_regroup,
+    first_can_come, index_tells_health, last_can_leave, nodes_are_numbered, nodes_have_values,
+    sets_can_regroup,
 };

@@ -15,7 +15,7 @@ use Rattle.health_standing.proofs.Keyed.{grouped, grouped_sets}
 use Rattle.health_standing.proofs.Leading.{led_alias, of_seat}
 use Rattle.health_standing.proofs.Regrouped.{watched_on}
 use Rattle.health_standing.proofs.Staying.{CameBy, WentBy, group_now, groups_led, in_filter, node_now, target_now}
-use Rattle.health_standing.proofs.ValveLeft.{own_kept, plain_kept, valves_kept}
+use Rattle.health_standing.proofs.ValveGone.{own_kept, plain_kept, valves_kept}
 use Rattle.health_standing.specs.Index.{Index, IsOfOneGroup, Space, StandsFor, TellApart}
 use Rattle.health_standing.specs.Leading.{ComesToLead, IsSeatedOwn}
 use Rattle.health_standing.specs.Leaving.{Moves}
@@ -95,7 +95,7 @@ module _ (before after : List Zone) (checks : Checks) (reports : List Report) (i
   none_own = ap own_part comes.bare
 
   own_same : (s : ℕ) → s ≢ ref.slot → seat_of now s ≡ seat_of seats s
-  own_same s apart = own_kept seats now ref.slot moved.others s apart
+  own_same s apart = own_kept seats now ref.slot (λ t b. (moved.others t b).0) s apart
 
   still_here : (zone : ℕ) (p : Slotted) → IsHere (placed_in before zone) p → IsHere (placed_in after zone) p
   still_here zone p here_was = elim (moves.stays zone p here_was) [
@@ -170,9 +170,9 @@ module _ (before after : List Zone) (checks : Checks) (reports : List Report) (i
         behind = w.behind;
         within = omega (arith, low);
         condition = there net stands.own feeders h low ∙ w.condition
-            ∙ ap (λ (l : List ℕ). record { need = 1; inverted = false; feeders = l }) (sym (valves_kept seats now ref.slot moved.others members apart));
+            ∙ ap (λ (l : List ℕ). record { need = 1; inverted = false; feeders = l }) (sym (valves_kept seats now ref.slot (λ t b. (moved.others t b).0) members apart));
         its_own = own_there_now h low ∙ w.its_own
-            ∙ sym (plain_kept seats now ref.slot moved.others members apart);
+            ∙ sym (plain_kept seats now ref.slot (λ t b. (moved.others t b).0) members apart);
       }
 
   target_kept : (zone : ℕ) (rtype : RType) (its : Body) (target : List ℕ)

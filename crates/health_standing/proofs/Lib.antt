@@ -9,6 +9,7 @@ pub mod Founded
 pub mod GroupJoined
 pub mod GroupLeft
 pub mod Keyed
+pub mod LastLeft
 pub mod Leading
 pub mod Led
 pub mod Moving
@@ -18,5 +19,7 @@ pub mod Reseated
 pub mod Slots
 pub mod Staying
 pub mod TwoMore
+pub mod Unfounded
 pub mod Unled
+pub mod ValveGone
 pub mod ValveLeft

@@ -27,7 +27,7 @@ use Rattle.health_valves.specs.declared.valves.Valves.{Valves}
 -- ---- what holds of every index
 
 -- what nothing fed, nothing feeds where one more is unfed
-still_alone : (net : Net) (own : ℕ → ℕ) (v valve : ℕ) → (net.condition valve).feeders ≡ []
+pub still_alone : (net : Net) (own : ℕ → ℕ) (v valve : ℕ) → (net.condition valve).feeders ≡ []
     → ((with_condition v unfed_condition net).condition valve).feeders ≡ []
 still_alone net own v valve alone = elim (cases_eq valve v) [
   | inl e ↦ ap (λ (c : Condition). c.feeders) (ap (with_condition v unfed_condition net).condition e ∙ here net own v)

@@ -1,63 +1,29 @@
 -- A set with a valve of its own went, from a group without one: nothing feeds that valve any more.
-use Rattle.std.proofs.Common.{◌≡◌, ◌≢◌, ◌≤◌, ◌<◌, ℕ, suc, true, false, List, [], ◌∷◌, arith, refl, ap, sym, ◌∙◌, inl, inr, Some}
-use Rattle.std.specs.Prelude.{◌⊎◌, slice_get}
-use Rattle.std.proofs.lemmas.Bool.{cases_eq, cases_lt, le-leb}
+use Rattle.std.proofs.Common.{◌≡◌, ◌≢◌, ℕ, true, List, [], ◌∷◌, arith, ap, sym, ◌∙◌, inl, inr}
+use Rattle.std.proofs.lemmas.Bool.{cases_eq}
 use mathlib.Core.Path.{subst}
 use Rattle.check_model.specs.Checks.{Checks}
-use Rattle.health_standing.proofs.GroupLeft.{is_none, is_one, own_there}
+use Rattle.health_standing.proofs.GroupLeft.{own_there}
 use Rattle.health_standing.proofs.Leading.{fed_alias, led_alias, one_group}
-use Rattle.health_standing.proofs.Moving.{of_parts}
-use Rattle.health_standing.proofs.Staying.{CameBy, WentBy, groups_led, node_now, target_now}
-use Rattle.health_standing.specs.Index.{Index, IsOfOneGroup, Space, StandsFor, TellApart}
+use Rattle.health_standing.proofs.ValveGone.{stays, valves_gone}
+use Rattle.health_standing.specs.Index.{Index, IsOfOneGroup, Space, StandsFor}
 use Rattle.health_standing.specs.Leaving.{Moves}
 use Rattle.health_standing.specs.Regrouping.{IsSeatedIn}
+use Rattle.health_standing.specs.Unfounding.{AreSeatedWithout}
 use Rattle.health_standing.specs.Unleading.{LeavesValve}
-use Rattle.health_model.specs.Nodes.{CheckNode, GroupNode, Node, SetNode}
 use Rattle.health_model.specs.Sound.{IsSound}
 use Rattle.health_model.specs.Statuses.{Report}
-use Rattle.health_planning.proofs.ListedOnce.{one_ref, own_is}
-use Rattle.health_planning.specs.Building.{TellsAll}
-use Rattle.health_planning.specs.Changes.{ref_in}
 use Rattle.health_planning.specs.SetRefRecord.{SetRef}
 use Rattle.health_planning.specs.Tables.{HaveSlotsApart}
-use Rattle.health_planning.specs.Wired.{IsGroupValve, IsLedTo, IsSeated, IsSpare, IsTarget, IsVacant, IsValveFor, group_seat, ids_of, own_part, plain, plain_among, seat_of, set_seat, valves_of, watched_of, with_valve}
+use Rattle.health_planning.specs.Wired.{IsLedTo, seat_of, watched_of}
 use Rattle.health_planning.specs.Zones.{AreZones, Zone, placed_in}
 use Rattle.health_planning.specs.declared.seats.Seat.{Seat}
 use Rattle.health_valves.proofs.Cuts.{ends_now, here, there}
 use Rattle.health_valves.specs.Pass.{IsIdle, MeetAll}
-use Rattle.health_valves.specs.Valves.{Feeds, Net, ValvesStandFor, unfed_condition, with_condition, with_own}
+use Rattle.health_valves.specs.Valves.{Feeds, ValvesStandFor, unfed_condition, with_condition, with_own}
 use Rattle.health_valves.specs.declared.valves.Valves.{Valves}
-use Rattle.rdata_layout.specs.declared.types.RType.{RType}
-use Rattle.record_set.specs.declared.sets.Body.{Body}
 use Rattle.record_set.specs.declared.sets.Body.TheVariants as body
 use Rattle.zone_model.specs.Slotted.{IsHere, Slotted}
-
-own_past : (seat v : ℕ) → own_part seat ≡ suc v → 200 ≤ v
-own_past seat v is = elim (cases_lt 200 seat) [
-  | inl late ↦ (let same = own_is seat late in omega (arith, late, same, is))
-  | inr early ↦ (let none : own_part seat ≡ 0 = rw (le-leb seat 200 early) refl in absurd (omega (arith, none, is)))
-]
-
--- sets whose seats stay are of one group with the same valves
-module _ (seats now : List Seat) (slot : ℕ)
-    (others : (s : ℕ) → s ≢ slot → TellsAll seats now s) where
-  pub own_kept : (s : ℕ) → s ≢ slot → seat_of now s ≡ seat_of seats s
-  own_kept s apart = ap own_part (others s apart).0.0
-
-  pub valves_kept : (members : List Slotted) → ((p : Slotted) → IsHere members p → p.slot ≢ slot)
-      → valves_of now members ≡ valves_of seats members
-  valves_kept [] apart = refl
-  valves_kept (p ∷ members) apart =
-      ap (λ (n : ℕ). with_valve n (valves_of now members)) (own_kept p.slot (apart p (inl refl)))
-      ∙ ap (with_valve (seat_of seats p.slot)) (valves_kept members (λ q m. apart q (inr m)))
-
-  pub plain_kept : (members : List Slotted) → ((p : Slotted) → IsHere members p → p.slot ≢ slot)
-      → plain_among now members ≡ plain_among seats members
-  plain_kept [] apart = refl
-  plain_kept (p ∷ members) apart =
-      let one = ap plain (own_kept p.slot (apart p (inl refl))) in
-      let rest = plain_kept members (λ q m. apart q (inr m)) in
-      omega (arith, one, rest)
 
 module _ (before after : List Zone) (checks : Checks) (reports : List Report) (index : Index)
     (stands : StandsFor before checks reports index) (are_after : AreZones after)
@@ -69,147 +35,19 @@ module _ (before after : List Zone) (checks : Checks) (reports : List Report) (i
   abbrev seats : List Seat
   seats = index.seats
 
-  abbrev net : Net
-  net = stands.net
-
-  abbrev net_now : Net
-  net_now = with_condition v unfed_condition stands.net
-
-  abbrev own_now : ℕ → ℕ
-  own_now = with_own v 0 stands.own
-
-  late : 200 ≤ v
-  late = own_past (set_seat seats ref.slot) v leaves.seat
-
-  none_own : seat_of now ref.slot ≡ 0
-  none_own = ap own_part moved.set
-
-  -- seats by which Staying's lemmas ask: what went had no valve, as it is seated then
-  by_went : (i : ℕ) (r : SetRef) → slice_get removed i ≡ Some r → WentBy now added r
-  by_went i r at =
-      let same = ap (λ (x : SetRef). x.slot) (is_one removed ref r is_removed (i, at)) in
-      inl (ap (seat_of now) same ∙ none_own, ap (group_seat now) same ∙ moved.group_is)
-
-  by_came : (i : ℕ) (r : SetRef) → slice_get added i ≡ Some r → CameBy before after now removed r
-  by_came i r at = absurd (is_none added r is_added (i, at))
-
-  stays : (zone : ℕ) (p : Slotted) → IsHere (placed_in before zone) p → p.slot ≢ ref.slot
+  still : (zone : ℕ) (p : Slotted) → IsHere (placed_in before zone) p → p.slot ≢ ref.slot
       → IsHere (placed_in after zone) p
-  stays zone p here_was apart = elim (moves.stays zone p here_was) [
-    | inl told ↦ absurd (apart (ap (λ (r : SetRef). r.slot) (is_one removed ref (ref_in zone p) is_removed told)))
-    | inr still ↦ still
-  ]
+  still = stays before after checks reports index stands removed added moves ref is_removed is_added v leaves.gone leaves.seat leaves.none
 
-  was_here : (zone : ℕ) (p : Slotted) → IsHere (placed_in after zone) p → IsHere (placed_in before zone) p
-  was_here zone p here_now = elim (moves.only zone p here_now) [
-    | inl was ↦ was
-    | inr new ↦ absurd (is_none added (ref_in zone p) is_added new)
-  ]
-
-  -- the set that went was there
-  went : (p : Slotted) × IsHere (placed_in before ref.zone) p × (p.slot ≡ ref.slot)
-  went =
-      let some = leaves.seat in
-      let h = stands.told.here ref.slot (λ none. let bare = ap own_part none in omega (arith, some, bare)) in
-      let q : Slotted = record { slot = ref.slot; set = h.1.0 } in
-      moves.gone ref.zone q (0, ap (λ (l : List SetRef). slice_get l 0) is_removed ∙ ap Some (of_parts ref (ref_in ref.zone q) refl refl))
-
-  none_after : (zone : ℕ) (q : Slotted) → IsHere (placed_in after zone) q → q.slot ≢ ref.slot
-  none_after zone q here_now e =
-      let one = one_ref before (ref_in zone q) (ref_in ref.zone went.0) q.set went.0.set stands.slots
-      (was_here zone q here_now) went.1 (e ∙ sym went.2) in
-      let z : zone ≡ ref.zone = ap (λ (r : SetRef). r.zone) one in
-      leaves.gone q.set
-      (subst (λ (n : ℕ). IsHere (placed_in after ref.zone) (record { slot = n; set = q.set })) e
-      (subst (λ (n : ℕ). IsHere (placed_in after n) q) z here_now))
-
-  -- ---- no other valve changes
-
-  group_other : (s h : ℕ) → group_seat seats s ≡ suc h → h ≢ v
-  group_other s h is e = stands.told.kinds ref.slot s v leaves.seat (is ∙ ap suc e)
-
-  set_other : (s w : ℕ) → s ≢ ref.slot → seat_of seats s ≡ suc w → w ≢ v
-  set_other s w apart is e = apart (stands.told.sets s ref.slot v (is ∙ ap suc e) leaves.seat)
-
-  member_apart : (members : List Slotted) (h : ℕ)
-      → ((p : Slotted) → IsHere members p → group_seat seats p.slot ≡ suc h)
-      → (p : Slotted) → IsHere members p → p.slot ≢ ref.slot
-  member_apart members h tell p m e =
-      let some = tell p m in
-      let none = ap (group_seat seats) e ∙ leaves.none in
-      omega (arith, some, none)
-
-  group_kept : (members : List Slotted) (h : ℕ) → IsGroupValve seats net stands.own members h
-      → IsGroupValve now net_now own_now members h
-  group_kept members h w =
-      let apart = member_apart members h w.each in
-      let other = group_other w.seat.0 h w.seat.1.1 in
-      record {
-        seat = (
-          w.seat.0,
-          (
-            w.seat.1.0,
-            (moved.others w.seat.0 (λ e. let some = w.seat.1.1 in let none = ap (group_seat seats) e ∙ leaves.none in omega (arith, some, none))).1
-                ∙ w.seat.1.1,
-          ),
-        );
-        each = λ p m. (moved.others p.slot (apart p m)).1 ∙ w.each p m;
-        behind = w.behind;
-        within = w.within;
-        condition = there net stands.own v h other ∙ w.condition
-            ∙ ap (λ (l : List ℕ). record { need = 1; inverted = false; feeders = l }) (sym (valves_kept seats now ref.slot moved.others members apart));
-        its_own = own_there v 0 stands.own h other ∙ w.its_own
-            ∙ sym (plain_kept seats now ref.slot moved.others members apart);
-      }
-
-  target_kept : (zone : ℕ) (rtype : RType) (its : Body) (target : List ℕ)
-      → IsTarget before seats net stands.own zone rtype its target
-      → IsTarget before now net_now own_now zone rtype its target
-  target_kept zone rtype (body.Values ttl values) target is = is
-  target_kept zone rtype (body.Alias name evaluate) target (inl off) = inl off
-  target_kept zone rtype (body.Alias name evaluate) target (inr (on, (valve, is, (members, are, w)))) =
-      inr (on, (valve, is, (members, are, group_kept members valve w)))
-
-  seated_now : (zone : ℕ) (p : Slotted) → IsHere (placed_in after zone) p
-      → IsSeated after (ids_of checks.list) index.numbers now net_now own_now zone p
-  seated_now zone p here_now =
-      let apart = none_after zone p here_now in
-      let s = stands.wired.its_sets zone p (was_here zone p here_now) in
-      record {
-        plain = λ is. (moved.others p.slot apart).0.0 ∙ s.plain is;
-        told = λ on. (moved.others p.slot apart).0.1 ∙ s.told on;
-        valved = λ on. elim (s.valved on) [
-          | inl alone ↦ inl (alone.0, (alone.1.0, (moved.others p.slot apart).0.0 ∙ alone.1.1))
-          | inr g ↦ (
-              let other = set_other p.slot g.0 apart g.1 in
-              inr (
-                g.0,
-                own_kept seats now ref.slot moved.others p.slot apart ∙ g.1,
-                record {
-                  behind = g.2.behind;
-                  within = g.2.within;
-                  target = g.2.target;
-                  its_target = target_now before after stands.are_zones are_after removed added moves now by_went by_came checks.list index.numbers
-                      net_now own_now (ids_of checks.list) index.valves zone p.set.rtype p.set.body g.2.target
-                      (target_kept zone p.set.rtype p.set.body g.2.target g.2.its_target);
-                  condition = there net stands.own v g.0 other ∙ g.2.condition;
-                  its_own = own_there v 0 stands.own g.0 other ∙ g.2.its_own;
-                },
-              )
-              )
-        ];
-      }
-
-  node_kept : (valve : ℕ) (node : Node) → valve ≢ v
-      → IsValveFor before checks.list index.numbers seats net stands.own valve node
-      → IsValveFor before checks.list index.numbers now net_now own_now valve node
-  node_kept valve (CheckNode id) other is = is
-  node_kept valve (SetNode zone set) other (s, (here_was, seat)) =
-      let apart = λ (e : s ≡ ref.slot).
-      let mine = leaves.seat in let its = ap (seat_of seats) (sym e) ∙ seat in other (omega (arith, mine, its)) in
-      (s, (here_was, own_kept seats now ref.slot moved.others s apart ∙ seat))
-  node_kept valve (GroupNode zone name rtype) other (members, (are, w)) =
-      (members, (are, group_kept members valve w))
+  -- no seat tells less of a group
+  seated : AreSeatedWithout ref.slot 0 seats now
+  seated = record {
+    set = moved.set;
+    none = moved.group_is;
+    others = λ s apart. (moved.others s apart).0;
+    gone = λ s apart none. (moved.others s apart).1 ∙ none;
+    groups = λ s apart some. (moved.others s apart).1;
+  }
 
   -- ---- an alias leads to each group still
 
@@ -219,7 +57,7 @@ module _ (before after : List Zone) (checks : Checks) (reports : List Report) (i
       by : (p : Slotted) → IsHere (placed_in before x.zone) p → p.set.body ≡ body.Alias x.name true
           → p.set.rtype ≡ x.rtype → IsLedTo after x.zone x.name x.rtype
       by p here_was is types = elim (cases_eq p.slot ref.slot) [
-        | inr apart ↦ (p, (stays x.zone p here_was apart, (is, types)))
+        | inr apart ↦ (p, (still x.zone p here_was apart, (is, types)))
         | inl e ↦
             let led = led_alias before checks reports index stands x.zone p x.name here_was is in
             let its = led.seat in
@@ -236,114 +74,20 @@ module _ (before after : List Zone) (checks : Checks) (reports : List Report) (i
             led.members other.members led.are led.is other.are other.is in (
               q,
               (
-                subst (λ (z : ℕ). IsHere (placed_in after z) q) names.0 (stays other.zone q other.here apart),
+                subst (λ (z : ℕ). IsHere (placed_in after z) q) names.0 (still other.zone q other.here apart),
                 (other.alias ∙ ap (λ (n : List (List ℕ)). body.Alias n true) names.1.0, names.1.1 ∙ types),
               ),
             )
       ]
 
-  -- ---- seats that tell a valve still
-
-  slot_apart : (s : ℕ) → set_seat now s ≢ 0 → s ≢ ref.slot
-  slot_apart s some e = some (ap (set_seat now) e ∙ moved.set)
-
-  own_apart : (s valve : ℕ) → seat_of now s ≡ suc valve → s ≢ ref.slot
-  own_apart s valve is e = let none = ap (seat_of now) e ∙ none_own in omega (arith, is, none)
-
-  group_apart : (s valve : ℕ) → group_seat now s ≡ suc valve → s ≢ ref.slot
-  group_apart s valve is e = let none = ap (group_seat now) e ∙ moved.group_is in omega (arith, is, none)
-
-  own_was : (s valve : ℕ) → seat_of now s ≡ suc valve → seat_of seats s ≡ suc valve
-  own_was s valve is = sym (own_kept seats now ref.slot moved.others s (own_apart s valve is)) ∙ is
-
-  group_was : (s valve : ℕ) → group_seat now s ≡ suc valve → group_seat seats s ≡ suc valve
-  group_was s valve is = sym (moved.others s (group_apart s valve is)).1 ∙ is
-
-  abbrev one_group_now : (valve : ℕ) → IsOfOneGroup before seats valve → IsOfOneGroup before now valve
-  one_group_now valve x = record {
-    zone = x.zone;
-    name = x.name;
-    rtype = x.rtype;
-    members = x.members;
-    are = x.are;
-    led = x.led;
-    behind = x.behind;
-    each = λ p m. (moved.others p.slot (member_apart x.members valve x.each p m)).1 ∙ x.each p m;
-    only = λ other tells. x.only other (group_was other valve tells);
-  }
-
-  told_now : TellApart after now
-  told_now = record {
-    sets = λ s other valve is its. stands.told.sets s other valve (own_was s valve is) (own_was other valve its);
-    kinds = λ s other valve is its. stands.told.kinds s other valve (own_was s valve is) (group_was other valve its);
-    groups = λ s valve is.
-        let x = stands.told.groups s valve (group_was s valve is) in
-        groups_led before after stands.are_zones are_after removed added moves now by_went by_came s valve is
-        (one_group_now valve x) (led_still valve x);
-    here = λ s some.
-        let apart = slot_apart s some in
-        let h = stands.told.here s (λ none. some ((moved.others s apart).0.0 ∙ none)) in
-        let p : Slotted = record { slot = h.0.slot; set = h.1.0 } in
-        (h.0, (h.1.0, (stays h.0.zone p h.1.1.0 (λ e. apart (sym h.1.1.1 ∙ e)), h.1.1.1)));
-  }
-
-  -- ---- all valves
-
-  nodes_now : (valve : ℕ) → valve < net.size → IsSpare index.numbers valve ⊎ (IsVacant net_now valve
-      ⊎ ((node : Node) × IsValveFor after checks.list index.numbers now net_now own_now valve node))
-  nodes_now valve within = elim (cases_eq valve v) [
-    | inl e ↦ inr (inl (rw e late, ap net_now.condition e ∙ here net stands.own v))
-    | inr apart ↦ elim (stands.wired.its_nodes valve within) [
-      | inl spare ↦ inl spare
-      | inr (inl vacant) ↦ inr (inl (vacant.0, there net stands.own v valve apart ∙ vacant.1))
-      | inr (inr n) ↦ inr (inr (node_now before after stands.are_zones are_after removed added moves now by_went by_came checks.list
-          index.numbers net_now own_now (ids_of checks.list) index.valves valve n.0 (node_kept valve n.0 apart n.1)))
-    ]
-  ]
-
-  early_apart : (valve : ℕ) → valve < 200 → valve ≢ v
-  early_apart valve low e = let behind = late in omega (arith, low, behind, e)
-
-  pub unled : (valves : Valves) (space : Space) → ValvesStandFor net_now own_now valves
-      → MeetAll net_now own_now valves → IsIdle valves
+  pub unled : (valves : Valves) (space : Space)
+      → ValvesStandFor (with_condition v unfed_condition stands.net) (with_own v 0 stands.own) valves
+      → MeetAll (with_condition v unfed_condition stands.net) (with_own v 0 stands.own) valves → IsIdle valves
       → StandsFor after checks reports (record index { seats = now; members = index.members; valves = valves; space = space })
-  unled valves space fits meet idle = record {
-    are_zones = are_after;
-    slots = slots_after;
-    are_checks = stands.are_checks;
-    sound = sound;
-    are_reports = stands.are_reports;
-    ids = stands.ids;
-    numbers = stands.numbers;
-    seen = stands.seen;
-    as_many = stands.as_many;
-    kin = stands.kin;
-    listed = λ zone valve p here_now is.
-        stands.listed zone valve p (was_here zone p here_now) (own_was p.slot valve is);
-    net = net_now;
-    own = own_now;
-    wired = record {
-      its_checks = λ place valve id check at numbered.
-          let c = stands.wired.its_checks place valve id check at numbered in
-          let apart = early_apart valve (stands.numbers.early place valve numbered) in
-          record {
-            within = c.within;
-            condition = there net stands.own v valve apart ∙ c.condition;
-            its_own = own_there v 0 stands.own valve apart ∙ c.its_own;
-          };
-      its_sets = seated_now;
-      its_nodes = nodes_now;
-      spares = λ valve spare. there net stands.own v valve (early_apart valve spare.0) ∙ stands.wired.spares valve spare;
-      many = stands.wired.many;
-      its_groups = λ s valve is. stands.wired.its_groups s valve (group_was s valve is);
-      its_members = λ s valve is.
-          let apart = group_apart s valve is in
-          (moved.others s apart).0.0 ∙ stands.wired.its_members s valve (group_was s valve is)
-          ∙ sym (own_kept seats now ref.slot moved.others s apart);
-    };
-    told = told_now;
-    fits = fits;
-    ends = ends_now net stands.own v stands.ends;
-    meet = meet;
-    idle = idle;
-  }
+  unled valves space fits meet idle =
+      valves_gone before after checks reports index stands removed added moves ref is_removed is_added v leaves.gone leaves.seat leaves.none
+      are_after slots_after sound now 0 seated (with_condition v unfed_condition stands.net).condition (with_own v 0 stands.own)
+      (λ n apart stay. there stands.net stands.own v n apart) (λ n apart stay. own_there v 0 stands.own n apart)
+      (here stands.net stands.own v)
+      (λ n e. let no : ⊥ = cc in absurd no) (λ n e. let no : ⊥ = cc in absurd no) (λ n y e. let no : ⊥ = cc in absurd no)
+      (λ valve stay x. led_still valve x) valves space fits (ends_now stands.net stands.own v stands.ends) meet idle

@@ -4,6 +4,7 @@ pub mod Kin
 pub mod Leading
 pub mod Leaving
 pub mod Regrouping
+pub mod Unfounding
 pub mod Unleading
 pub use Rattle.check_model.specs.Checks
 pub use Rattle.checker_state.specs.Standing

@@ -137,6 +137,13 @@ abbrev pub IsShared : Net → (valve first : ℕ) → Type 0
 IsShared net valve first = (x : ℕ) → first ≤ x → Feeds net x valve
     → (y : ℕ) × ((y ≢ valve) × ((y < net.size) × Feeds net x y))
 
+-- One valve alone from a number on feeds a valve, and it feeds no other one.
+pub record IsSoleFeeder (net : Net) (valve first feeder : ℕ) : Type 0 where
+  pub late : first ≤ feeder
+  pub feeds : Feeds net feeder valve
+  pub only : (x : ℕ) → first ≤ x → Feeds net x valve → x ≡ feeder
+  pub alone : (y : ℕ) → y < net.size → Feeds net feeder y → y ≡ valve
+
 -- another number than this one is listed
 abbrev pub HasOther : (valve : ℕ) → List ℕ → Type 0
 HasOther valve listed = (y : ℕ) × ((y ≢ valve) × Contains listed y)

@@ -1,12 +1,13 @@
-//! Valves that feed more than one.
+//! Valves that feed more than one, or one alone.
 
-ghost use Rattle.std.specs.Prelude.{◌↔◌, ◌<◌, All, IsTrue, length};
+ghost use Rattle.std.specs.Prelude.{◌≡◌, ◌↔◌, ◌≤◌, ◌<◌, ℕ, All, IsTrue, None, Some, length};
+ghost use Rattle.std.specs.List.{Contains};
 ghost use Rattle.health_valves.specs.Valves.{FeedOthers, HasOther};
 
 use valve_feeds::{FedWalk, FeedLists, FeedersWalk};
 
 /// Whether another valve than this one is among those that a walk has left.
-fn has_other(fed: FedWalk<'_>, valve: u32) -> bool
+pub fn has_other(fed: FedWalk<'_>, valve: u32) -> bool
     ensures { IsTrue result ↔ HasOther valve fed.entry }
 {
     for other in fed {
@@ -25,6 +26,34 @@ pub fn feed_others(feeds: &FeedLists, feeders: FeedersWalk<'_>, valve: u32, firs
     for feeder in feeders {
         if feeder as usize >= first {
             if !has_other(feeds.fed(feeder), valve) {
+                return false;
+            }
+        }
+    }
+    true
+}
+
+/// The first valve from a number on among those that a walk has left.
+pub fn late_feeder(feeders: FeedersWalk<'_>, first: usize) -> Option<u32>
+    ensures found { (x : ℕ) → result ≡ Some x → (first ≤ x) × Contains feeders.entry x }
+    ensures none { result ≡ None → (x : ℕ) → first ≤ x → Contains feeders.entry x → ⊥ }
+{
+    for feeder in feeders {
+        if feeder as usize >= first {
+            return Some(feeder);
+        }
+    }
+    None
+}
+
+/// Whether no other valve from a number on is among those that a walk has left.
+pub fn is_only(feeders: FeedersWalk<'_>, feeder: u32, first: usize) -> bool
+    ensures { IsTrue result
+        ↔ ((x : ℕ) → first ≤ x → Contains feeders.entry x → x ≡ feeder) }
+{
+    for other in feeders {
+        if other as usize >= first {
+            if other != feeder {
                 return false;
             }
         }

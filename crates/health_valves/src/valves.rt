@@ -3,12 +3,12 @@
 
 ghost use Rattle.std.specs.Prelude.{◌≡◌, ◌≢◌, ◌≤◌, ◌<◌, ◌+◌, ◌^◌, ◌↔◌, ◌∷◌, [], All, IsTrue};
 ghost use Rattle.std.specs.Prelude.{List, false, if◌then◌else◌, length, slice_get, slice_index, true, ℕ};
-ghost use Rattle.std.specs.Prelude.{Contains, IsOk, OnOk};
+ghost use Rattle.std.specs.Prelude.{Contains, IsOk, OnOk, Some};
 ghost use Rattle.std.specs.List.Sorted.{IsPermutation};
 ghost use Rattle.health_valves.specs.Laying.{HasRoomFor, HasRoomForOne, links_of};
 ghost use Rattle.health_valves.specs.Blueprint.{IsDrawn, Drawn, net_in, no_blueprint, own_in};
 ghost use Rattle.health_valves.specs.Valves.{Feeds, HasEnds, ValvesStandFor, IsReady, MeetsEquation, Net, count};
-ghost use Rattle.health_valves.specs.Valves.{IsShared, equation, fed_condition};
+ghost use Rattle.health_valves.specs.Valves.{IsShared, IsSoleFeeder, equation, fed_condition};
 ghost use Rattle.health_valves.specs.Valves.{size_of, unfed_condition, value_in, value_of};
 ghost use Rattle.health_valves.specs.Valves.{with_condition, with_need, with_one_more, with_own};
 ghost use Rattle.health_valves.specs.Pass.{CostsCone, HasCone, HasMarked, IsIdle, IsInOrder, MeetAll};
@@ -19,7 +19,7 @@ use crate::cone::{list_all, list_cone};
 use crate::feeding::{add_feeders, count_open};
 use crate::laying::{lay_counts, lay_links, lay_none, lay_rows, lay_valves};
 use crate::room::{make_feeds, make_room};
-use crate::sharing::feed_others;
+use crate::sharing::{feed_others, has_other, is_only, late_feeder};
 use crate::steps::Steps;
 use crate::unfeeding::take_feeders;
 use crate::writes::{is_open, work_out};
@@ -352,6 +352,30 @@ impl Valves {
         // A valve is fed by others as often as they feed it.
         self.feeds.len();
         feed_others(&self.feeds, self.feeds.feeders(valve), valve, first)
+    }
+
+    /// The valve from a number on that alone feeds a valve, where it feeds no other one.
+    pub fn sole_feeder(&self, valve: u32, first: usize) -> Option<u32>
+        requires ready { IsReady self.now }
+        requires valve { valve < size_of self.now }
+        ensures found { (net : Net) (own : ℕ → ℕ) → ValvesStandFor net own self.now → (x : ℕ)
+            → result ≡ Some x → IsSoleFeeder net valve first x }
+        ensures all { (net : Net) (own : ℕ → ℕ) → ValvesStandFor net own self.now → (x : ℕ)
+            → IsSoleFeeder net valve first x → result ≡ Some x }
+        ensures within { (x : ℕ) → result ≡ Some x → x < size_of self.now }
+    {
+        // A valve is fed by others as often as they feed it.
+        self.feeds.len();
+        let Some(feeder) = late_feeder(self.feeds.feeders(valve), first) else {
+            return None;
+        };
+        if !is_only(self.feeds.feeders(valve), feeder, first) {
+            return None;
+        }
+        if has_other(self.feeds.fed(feeder), valve) {
+            return None;
+        }
+        Some(feeder)
     }
 
     /// How many valves there are.

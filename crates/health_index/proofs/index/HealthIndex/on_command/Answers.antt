@@ -5,6 +5,7 @@ use Rattle.health_index.proofs.ByOne.{joined_not_beside, joined_not_kept, left_n
 use Rattle.health_index.proofs.Founded.{founded_not_beside, founded_not_kept}
 use Rattle.health_index.proofs.Led.{led_not_beside, led_not_kept}
 use Rattle.health_index.proofs.Moving.{all_moved, zones_stay}
+use Rattle.health_index.proofs.Unfounded.{unfounded_not_beside, unfounded_not_kept}
 use Rattle.health_index.proofs.Unled.{unled_not_beside, unled_not_kept}
 use Rattle.health_planning.specs.declared.seats.Seat.{Seat}
 use Rattle.health_index.proofs.Staying.{leaves_follow, stands_with_valves}
@@ -15,6 +16,7 @@ use Rattle.health_index.specs.Founding.{ComesFirst, Founds}
 use Rattle.health_index.specs.Leading.{ComesToLead, GetsValve}
 use Rattle.health_index.specs.Regrouping.{Joins, JoinsGroup, Leaves, LeavesGroup, TellNoOther}
 use Rattle.health_index.specs.Room.{AddsFew, HasRoom, HasRoomForAlias, HasRoomForFirst}
+use Rattle.health_index.specs.Unfounding.{LeavesLast, Unfounds}
 use Rattle.health_index.specs.Unleading.{LeavesValve, Unleads}
 use Rattle.health_planning.specs.DeltaRecord.{Delta}
 use Rattle.health_planning.specs.Wired.{set_seat}
@@ -192,6 +194,39 @@ returns-clause-unled c ref valve gone leaves =
     let zones = c.args.zones.now.zones in
     let same = c.if-reseat.ensures.stays refl ∙ c.self.view_is in
     absurd (false≢true (c.if-regroup.ensures.unled ref valve gone (subst (λ (i : Index). LeavesValve zones i.seats i.valves ref valve) (sym same) leaves)).0)
+
+-- where it was the last alias that led to a group
+pub returns-then-leaves_valves-clause-unfounded : goal.returns-then-leaves_valves-clause-unfounded
+returns-then-leaves_valves-clause-unfounded c ref valve group gone leaves =
+    let zones = c.args.zones.now.zones in
+    absurd (unfounded_not_kept zones c.args.self.now.ids c.args.self.now.numbers c.args.self.now.seats c.args.self.now.valves c.args.delta.now ref valve group
+    (kept_by zones c.args.delta.now
+    (c.deref.ensures.value ∙ ap (λ (i : Index). i.ids) c.self.view_is)
+    (c.deref-2.ensures.value ∙ ap (λ (i : Index). i.numbers) c.self.view_is)
+    (c.deref-3.ensures.value ∙ ap (λ (i : Index). i.seats) c.self.view_is)
+    (ap (λ (i : Index). i.valves) c.self.view_is) (c.if-leaves_valves.ensures.0 refl)) gone leaves)
+
+pub returns-then-reseat-clause-unfounded : goal.returns-then-reseat-clause-unfounded
+returns-then-reseat-clause-unfounded c ref valve group gone leaves =
+    let zones = c.args.zones.now.zones in
+    absurd (unfounded_not_beside zones c.args.self.now.seats c.args.self.now.valves c.args.delta.now ref valve group
+    (subst (λ (i : Index). SparesValves zones i.seats c.args.delta.now) c.self.view_is (c.if-reseat.ensures.spares refl)) gone leaves)
+
+pub returns-then-regroup-clause-unfounded : goal.returns-then-regroup-clause-unfounded
+returns-then-regroup-clause-unfounded c ref valve group gone leaves =
+    let zones = c.args.zones.now.zones in
+    let same = c.if-reseat.ensures.stays refl ∙ c.self.view_is in
+    subst (λ (i : Index). Unfounds ref valve group i c.regroup.new.self) same
+    (c.if-regroup.ensures.unfounded ref valve group gone (subst (λ (i : Index). LeavesLast zones i.seats i.valves ref valve group) (sym same) leaves)).1
+
+pub returns-then-follow-clause-unfounded : goal.returns-then-follow-clause-unfounded
+returns-then-follow-clause-unfounded c ref valve group gone leaves = absurd (gone.zone (c.if-follow.ensures.zone refl))
+
+pub returns-clause-unfounded : goal.returns-clause-unfounded
+returns-clause-unfounded c ref valve group gone leaves =
+    let zones = c.args.zones.now.zones in
+    let same = c.if-reseat.ensures.stays refl ∙ c.self.view_is in
+    absurd (false≢true (c.if-regroup.ensures.unfounded ref valve group gone (subst (λ (i : Index). LeavesLast zones i.seats i.valves ref valve group) (sym same) leaves)).0)
 
 -- where one evaluated alias came
 pub returns-then-leaves_valves-clause-led : goal.returns-then-leaves_valves-clause-led

@@ -1,4 +1,4 @@
-use Rattle.std.proofs.Common.{◌≡◌, ◌∷◌, [], Option, length, refl, sym, ◌∙◌}
+use Rattle.std.proofs.Common.{◌≡◌, ◌∷◌, [], Option, length, ap, refl, sym, ◌∙◌}
 use Rattle.std.proofs.lemmas.Bool.{false≢true}
 use mathlib.Core.Path.{subst}
 use Rattle.health_index.proofs.Regrouped.{watched_on}
@@ -8,9 +8,11 @@ use Rattle.health_index.specs.Leading.{ComesToLead, GetsValve}
 use Rattle.health_index.specs.Room.{HasRoom, HasRoomForAlias, HasRoomForFirst}
 use Rattle.health_index.specs.Regrouping.{IsCome, IsGone, Joins, JoinsGroup, Leaves, LeavesGroup, TellNoOther}
 use Rattle.health_index.specs.Index.{Index, StandsFor}
+use Rattle.health_index.specs.Unfounding.{LeavesLast, Unfounds}
 use Rattle.health_index.specs.Unleading.{LeavesValve, Unleads}
 use Rattle.health_planning.specs.Looking.{RefersTo}
 use Rattle.health_planning.specs.SetRefRecord.{SetRef}
+use Rattle.health_planning.specs.Wired.{group_seat}
 use Rattle.health_index.proofs.Laid.{adds_nothing}
 use Rattle.health_index.specs.Room.{AddsFew}
 use Rattle.health_index.proofs.index.HealthIndex.regroup.Goals as goal
@@ -28,9 +30,51 @@ returns-then-leave-clause-left c ref valve gone leaves =
           (c.if-leave.ensures.left valve (subst (λ (r : SetRef). LeavesGroup zones c.args.self.now.seats c.args.self.now.valves r valve) (sym one) leaves)).1,
     )
 
+pub returns-then-leave-clause-unfounded : goal.returns-then-leave-clause-unfounded
+returns-then-leave-clause-unfounded c ref valve group gone leaves =
+    let is = subst (λ (o : Option SetRef). IsGone c.args.delta.now o) c.in-Some.is c.one_gone.ensures in
+    let one = one_same (sym is.removed ∙ gone.removed) in
+    absurd (c.if-leave.ensures.group refl (ap (λ (r : SetRef). group_seat c.args.self.now.seats r.slot) one ∙ leaves.none))
+
+pub returns-then-unlead-clause-stands : goal.returns-then-unlead-clause-stands
+returns-then-unlead-clause-stands c before old reports stands left done =
+    c.if-unlead.ensures.stands before old reports (subst (StandsFor before old reports) (sym (c.if-leave.ensures.stays refl)) stands) left refl
+
+pub returns-then-unlead-clause-left : goal.returns-then-unlead-clause-left
+returns-then-unlead-clause-left c ref valve gone leaves =
+    let is = subst (λ (o : Option SetRef). IsGone c.args.delta.now o) c.in-Some.is c.one_gone.ensures in
+    let one = one_same (sym is.removed ∙ gone.removed) in
+    let zones = c.args.zones.now.zones in
+    absurd (false≢true
+    (c.if-leave.ensures.left valve (subst (λ (r : SetRef). LeavesGroup zones c.args.self.now.seats c.args.self.now.valves r valve) (sym one) leaves)).0)
+
+pub returns-then-unlead-clause-unled : goal.returns-then-unlead-clause-unled
+returns-then-unlead-clause-unled c ref valve gone leaves =
+    let is = subst (λ (o : Option SetRef). IsGone c.args.delta.now o) c.in-Some.is c.one_gone.ensures in
+    let one = one_same (sym is.removed ∙ gone.removed) in
+    let zones = c.args.zones.now.zones in
+    let same = c.if-leave.ensures.stays refl in
+    let u = c.if-unlead.ensures.unled valve (subst (λ (i : Index). LeavesValve zones i.seats i.valves c.in-Some.set valve) (sym same)
+    (subst (λ (r : SetRef). LeavesValve zones c.args.self.now.seats c.args.self.now.valves r valve) (sym one) leaves)) in (
+      refl,
+      subst (λ (i : Index). Unleads ref valve i c.unlead.new.self) same
+          (subst (λ (r : SetRef). Unleads r valve c.leave.new.self c.unlead.new.self) one u.1),
+    )
+
+pub returns-then-unlead-clause-unfounded : goal.returns-then-unlead-clause-unfounded
+returns-then-unlead-clause-unfounded c ref valve group gone leaves =
+    let is = subst (λ (o : Option SetRef). IsGone c.args.delta.now o) c.in-Some.is c.one_gone.ensures in
+    let one = one_same (sym is.removed ∙ gone.removed) in
+    let zones = c.args.zones.now.zones in
+    let same = c.if-leave.ensures.stays refl in
+    absurd (c.if-unlead.ensures.another refl valve group
+    (subst (λ (i : Index). LeavesLast zones i.seats i.valves c.in-Some.set valve group) (sym same)
+    (subst (λ (r : SetRef). LeavesLast zones c.args.self.now.seats c.args.self.now.valves r valve group) (sym one) leaves)))
+
 pub returns-in-Some-clause-stands : goal.returns-in-Some-clause-stands
 returns-in-Some-clause-stands c before old reports stands left done =
-    c.unlead.ensures.stands before old reports (subst (StandsFor before old reports) (sym (c.if-leave.ensures.stays refl)) stands) left done
+    c.unfound.ensures.stands before old reports
+    (subst (StandsFor before old reports) (sym (c.if-unlead.ensures.stays refl ∙ c.if-leave.ensures.stays refl)) stands) left done
 
 pub returns-in-Some-clause-left : goal.returns-in-Some-clause-left
 returns-in-Some-clause-left c ref valve gone leaves =
@@ -46,11 +90,21 @@ returns-in-Some-clause-unled c ref valve gone leaves =
     let one = one_same (sym is.removed ∙ gone.removed) in
     let zones = c.args.zones.now.zones in
     let same = c.if-leave.ensures.stays refl in
-    let u = c.unlead.ensures.unled valve (subst (λ (i : Index). LeavesValve zones i.seats i.valves c.in-Some.set valve) (sym same)
-    (subst (λ (r : SetRef). LeavesValve zones c.args.self.now.seats c.args.self.now.valves r valve) (sym one) leaves)) in (
+    absurd (false≢true (c.if-unlead.ensures.unled valve (subst (λ (i : Index). LeavesValve zones i.seats i.valves c.in-Some.set valve) (sym same)
+    (subst (λ (r : SetRef). LeavesValve zones c.args.self.now.seats c.args.self.now.valves r valve) (sym one) leaves))).0)
+
+pub returns-in-Some-clause-unfounded : goal.returns-in-Some-clause-unfounded
+returns-in-Some-clause-unfounded c ref valve group gone leaves =
+    let is = subst (λ (o : Option SetRef). IsGone c.args.delta.now o) c.in-Some.is c.one_gone.ensures in
+    let one = one_same (sym is.removed ∙ gone.removed) in
+    let zones = c.args.zones.now.zones in
+    let same = c.if-unlead.ensures.stays refl ∙ c.if-leave.ensures.stays refl in
+    let u = c.unfound.ensures.unfounded valve group
+    (subst (λ (i : Index). LeavesLast zones i.seats i.valves c.in-Some.set valve group) (sym same)
+    (subst (λ (r : SetRef). LeavesLast zones c.args.self.now.seats c.args.self.now.valves r valve group) (sym one) leaves)) in (
       u.0,
-      subst (λ (i : Index). Unleads ref valve i c.unlead.new.self) same
-          (subst (λ (r : SetRef). Unleads r valve c.leave.new.self c.unlead.new.self) one u.1),
+      subst (λ (i : Index). Unfounds ref valve group i c.unfound.new.self) same
+          (subst (λ (r : SetRef). Unfounds r valve group c.unlead.new.self c.unfound.new.self) one u.1),
     )
 
 pub returns-then-join-clause-joined : goal.returns-then-join-clause-joined
@@ -177,9 +231,14 @@ returns-in-Some-one_come-clause-founded c ref members feeders come comes room =
           (subst (λ (r : SetRef). Founds r members feeders c.lead_in.new.self c.found_in.new.self) one l.1),
     )
 
+pub returns-then-unlead-clause-adds : goal.returns-then-unlead-clause-adds
+returns-then-unlead-clause-adds c =
+    subst (λ (i : Index). AddsFew c.args.zones.now.slots i c.unlead.new.self) (c.if-leave.ensures.stays refl) c.if-unlead.ensures.adds
+
 pub returns-in-Some-clause-adds : goal.returns-in-Some-clause-adds
 returns-in-Some-clause-adds c =
-    subst (λ (i : Index). AddsFew c.args.zones.now.slots i c.unlead.new.self) (c.if-leave.ensures.stays refl) c.unlead.ensures.adds
+    subst (λ (i : Index). AddsFew c.args.zones.now.slots i c.unfound.new.self)
+    (c.if-unlead.ensures.stays refl ∙ c.if-leave.ensures.stays refl) c.unfound.ensures.adds
 
 pub returns-then-lead_in-clause-adds : goal.returns-then-lead_in-clause-adds
 returns-then-lead_in-clause-adds c =

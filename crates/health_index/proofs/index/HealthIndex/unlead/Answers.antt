@@ -1,9 +1,11 @@
 use Rattle.std.proofs.Common.{◌≡◌, ◌≤◌, ◌+◌, ℕ, List, Some, length, arith, refl, ap, sym, ◌∙◌}
 use mathlib.Core.Path.{subst}
 use Rattle.health_index.proofs.ByOne.{index_regrouped}
+use Rattle.health_index.proofs.Unfounded.{unfounded_not_unled}
 use Rattle.health_index.proofs.Unled.{unled_by, whole_unled}
 use Rattle.health_index.specs.Index.{Index, StandsFor}
 use Rattle.health_index.specs.Regrouping.{IsSeatedIn}
+use Rattle.health_index.specs.Unfounding.{LeavesLast}
 use Rattle.health_index.specs.Unleading.{LeavesValve}
 use Rattle.health_planning.specs.declared.seats.Seat.{Seat}
 use Rattle.health_valves.specs.Valves.{ValvesStandFor, size_of, unfed_condition, with_condition, with_own}
@@ -66,3 +68,12 @@ returns-clause-adds c =
     let valves : size_of c.unfeed.new.self ≤ size_of c.self.inside.valves + 2 = omega (arith, size) in
     let few : links_of c.unfeed.new.self ≤ links_of c.self.inside.valves + 2 = omega (arith, links) in
     adds_by _ _ _ _ c.self.view_is refs members valves few
+
+pub returns-clause-another : goal.returns-clause-another
+returns-clause-another c done valve group last =
+    let zones = c.args.zones.now.zones in
+    let w = c.self.invariant in
+    let leaves = subst (λ (l : List Seat). LeavesValve zones l c.self.inside.valves c.args.set c.in-Some.valve) c.deref.ensures.value
+    (c.in-Some.ensures.found c.in-Some.valve refl) in
+    unfounded_not_unled zones c.self.inside.seats.items c.self.inside.valves c.args.set valve c.in-Some.valve group w.net w.own w.fits leaves
+    (subst (λ (i : Index). LeavesLast zones i.seats i.valves c.args.set valve group) (sym c.self.view_is) last)
