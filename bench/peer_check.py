@@ -9,7 +9,7 @@ gets the same zone as a master file, and the same packets by UDP on 127.0.0.1; i
 The zone is the one below; with --zones N there are N zones more, made at random of few labels, so that names, wildcards, cuts
 and CNAME records meet in many ways, and each is asked for 200 names. Each --file is a master file (RFC 1035, section 5) that somebody
 else wrote, as those of Debian's packages bind9 (/etc/bind/db.*) and yadifa, read as a zone of that origin and asked for 200 names, too;
-records of other types than those below are left out of it, and said.
+records of other types than those below, and outside the zone, are left out of it, and said. `$INCLUDE` and other classes than IN aren't read.
 
 Compared are RCODE, AA, TC, RD, the question, whether there is an OPT record, and the three sections as sets of records (owner,
 type, class, TTL, data; names without case, compression undone). Differences that have a reason are counted by it, each shown a few

@@ -4,16 +4,19 @@ use crate::sets::{batch, change, name, simple};
 use change_batch::{Action, prepare};
 use dns_name::Name;
 use rdata::{RData, RType};
-use record_set::RecordSet;
+use record_set::{Body, RecordSet};
 use std::alloc::Global;
 use std::process::Abort;
 
-/// Whether the first of some sets has a name.
-fn is_named(sets: &[RecordSet], owner: &Name) -> bool {
-    match sets.first() {
-        Some(set) => set.name == *owner,
-        None => false,
-    }
+/// Whether the first of some sets is of a name and of type A, and has one value for 300 seconds.
+fn is_address_of(sets: &[RecordSet], owner: &Name) -> bool {
+    let Some(set) = sets.first() else {
+        return false;
+    };
+    let Body::Values { ttl, values } = &set.body else {
+        return false;
+    };
+    set.name == *owner && set.rtype == RType::A && *ttl == 300 && values.as_slice().len() == 1
 }
 
 /// One address.
@@ -34,5 +37,5 @@ fn a_set_that_comes(rt: HostRuntime) {
     let after = prepare(alloc, &[], &name(&rt, b"example.com"), &batch(1, changes));
     let sets = after.ok().expect(&rt, "no rule is broken");
     assert_eq!(&rt; sets.len(), 1, "one set");
-    assert!(&rt; is_named(sets.as_slice(), &owner), "the one that came");
+    assert!(&rt; is_address_of(sets.as_slice(), &owner), "the one that came");
 }

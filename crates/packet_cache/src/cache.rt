@@ -21,7 +21,7 @@ const KEPT: u32 = 1;
 /// Its reply isn't worth being kept.
 const PASSED: u32 = 2;
 
-/// Of so many packets that come to the place of another's reply, one takes it.
+/// Of so many packets at both of whose places others' replies are kept, one takes the first.
 const STAYS: u32 = 16;
 
 /// Replies by packets.
@@ -29,7 +29,7 @@ const STAYS: u32 = 16;
 pub struct PacketCache {
     /// In which generation places are taken.
     generation: u32,
-    /// What is known of the packet that came last to each place: in the low two bits that, in the next eight some of the
+    /// What is known of the packet that was noted last at each place: in the low two bits that, in the next eight some of the
     /// generation in which it came, and in the others some of its key. Hints.
     marks: Vec<u32>,
     places: Vec<Place>,
@@ -130,7 +130,8 @@ impl PacketCache {
         }
     }
 
-    /// Keeps the reply to a packet, in the place of another, where both are short enough.
+    /// Keeps the reply to a packet where both are short enough: at the place at which the packet is noted, or else at its
+    /// first one, where another's reply may be kept.
     pub fn keep(&mut self, key: u64, packet: &[u8], reply: &[u8])
         ensures { KeepsNoMoreBut (kept_of packet.now reply.now) self.old self.new }
     {
@@ -173,7 +174,7 @@ impl PacketCache {
         None
     }
 
-    /// Whether a reply is kept at a place, by its mark.
+    /// Whether a reply is kept at a place, by its mark, which may be that of a generation with the same eight bits.
     fn is_taken(&self, at: usize) -> bool {
         let mark = self.mark(at);
         mark % 4 == KEPT && mark / 4 % 256 == self.generation % 256

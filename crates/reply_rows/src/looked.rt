@@ -3,24 +3,28 @@
 use crate::made::{name, root};
 use crate::root::ROOT;
 use dns_name::Name;
+use rdata::RType;
 use record_set::RecordSet;
 use std::process::Abort;
 use std::test::Fail;
 
-/// Whether the set at a place is one of this name.
-fn is_named(sets: &[RecordSet], place: usize, owner: &Name) -> bool {
+/// Whether the set at a place is one of this name and type.
+fn is_of(sets: &[RecordSet], place: usize, owner: &Name, rtype: RType) -> bool {
     match sets.get(place) {
-        Some(set) => set.name == *owner,
+        Some(set) => set.name == *owner && set.rtype == rtype,
         None => false,
     }
 }
 
-/// Compares the names of sets.
-fn compare(rt: &impl Abort, sets: &[RecordSet], owners: &[&str]) {
-    assert_eq!(rt; sets.len(), owners.len(), "sets");
-    for place in 0..owners.len() {
-        let owner = name(rt, owners[place]);
-        assert!(rt; is_named(sets, place, &owner), "in zone order: {place}");
+/// Compares the names and the types of sets.
+fn compare(rt: &impl Abort, sets: &[RecordSet], rows: &[(&str, RType)]) {
+    assert_eq!(rt; sets.len(), rows.len(), "sets");
+    for place in 0..rows.len() {
+        let (text, rtype) = rows[place];
+        assert!(rt;
+            is_of(sets, place, &name(rt, text), rtype),
+            "in zone order: {place}"
+        );
     }
 }
 
@@ -32,7 +36,13 @@ fn all_sets_of_a_zone(rt: HostRuntime) -> Result<(), Fail> {
     compare(
         &rt,
         sets.as_slice(),
-        &[".", ".", "sri-nic.arpa", "a.isi.edu", "mil"],
+        &[
+            (".", RType::Ns),
+            (".", RType::Soa),
+            ("sri-nic.arpa", RType::A),
+            ("a.isi.edu", RType::A),
+            ("mil", RType::Ns),
+        ],
     );
     Ok(())
 }
