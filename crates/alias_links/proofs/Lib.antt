@@ -1,5 +1,6 @@
 pub mod Aliased
 pub mod Changing
+pub mod Coming
 pub mod Firsts
 pub mod Grouped
 pub mod Held

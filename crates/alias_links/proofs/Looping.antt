@@ -48,6 +48,25 @@ module _ {X : Type 0} (P : X → Type 0) (xs : List X) where
       let within = slice_get_within xs at.0 x at.1 in
       before at.0 x (omega (arith, within, all)) at.1 has
 
+module _ {X : Type 0} (P : X → Type 0) (xs : List X) where
+  -- each of the first so many
+  abbrev pub AllUpTo : (n : ℕ) → Type 0
+  AllUpTo n = (j : ℕ) (x : X) → j < n → slice_get xs j ≡ Some x → P x
+
+  pub one_more_has : (i : ℕ) (x : X) → slice_get xs i ≡ Some x → P x → AllUpTo i → AllUpTo (i + 1)
+  one_more_has i x at has before j y lt at_y = elim (last_or j i lt) [
+    | inl less ↦ before j y less at_y
+    | inr e ↦
+        (let same : x ≡ y = grind (arith, at, at_y, e) in
+        subst P same has)
+  ]
+
+  pub all_have : (n : ℕ) → length xs ≤ n → AllUpTo n → (x : X) → IsAmong xs x → P x
+  all_have n all before x there =
+      let at = place_of xs x there in
+      let within = slice_get_within xs at.0 x at.1 in
+      before at.0 x (omega (arith, within, all)) at.1
+
 -- a list of which it can't be that it isn't empty
 pub empty_so : {X : Type 0} (xs : List X) → (xs ≢ [] → ⊥) → xs ≡ []
 empty_so [] not = refl

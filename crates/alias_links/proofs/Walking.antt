@@ -37,7 +37,7 @@ module _ (sets others : List RecordSet)
       let is = of_filter (is_of_group target rtype) sets next there in
       in_filter (is_of_group target rtype) others next (each next is.0 alias) is.1
 
-  head_alias : (set : RecordSet) (walk : List RecordSet) → IsWalk sets (set ∷ walk)
+  pub head_alias : (set : RecordSet) (walk : List RecordSet) → IsWalk sets (set ∷ walk)
       → IsAmong sets set × IsAlias set.body
   head_alias set [] is = is
   head_alias set (next ∷ walk) is = (is.0, is.1)
@@ -84,6 +84,57 @@ module _ (sets : List RecordSet) where
   pub alias_among : (set : RecordSet) → IsAmong (aliases_of sets) set → IsAmong sets set
   alias_among set there = (of_filter is_alias_set sets set there).0
 
+-- a set of a group names it by its key
+pub of_group : (name : List (List ℕ)) (rtype : RType) (set : RecordSet)
+    → is_of_group name rtype set ≡ true → (name ≡ set.name) × (rtype ≡ set.rtype)
+of_group name rtype set e =
+    let parts = and_parts (same_labels name set.name) (number_of rtype == number_of set.rtype) e in (
+      (same_labels-Decides name set.name).0 parts.0,
+      one_number rtype set.rtype ((Decides-eqb (number_of rtype) (number_of set.rtype)).0 parts.1),
+    )
+
+-- ---- where no group is emptied
+
+module _ (sets : List RecordSet) (remove : List SetKey) (add : List RecordSet)
+    (change : IsChange sets remove add) (filled : EmptiesGroup remove (changed sets remove add) → ⊥) where
+  abbrev now : List RecordSet
+  now = changed sets remove add
+
+  -- a group that has no set now had none
+  had_none : (name : List (List ℕ)) (rtype : RType) → group now name rtype ≡ []
+      → group sets name rtype ≡ []
+  had_none name rtype empty = is_empty (group sets name rtype) no
+    where
+      by : (member : RecordSet) → IsAmong sets member → is_of_group name rtype member ≡ true
+          → (b : Bool) → is_key_of remove (key_of member) ≡ b → ⊥
+      by member there of true named =
+          let is = of_group name rtype member of in
+          let none_left : group now member.name member.rtype ≡ [] =
+          subst (λ (n : List (List ℕ)). group now n member.rtype ≡ []) is.0
+          (subst (λ (t : RType). group now name t ≡ []) is.1 empty) in
+          filled (key_of member, (key_test remove (key_of member)).0 named, none_left)
+      by member there of false other =
+          has_some (group now name rtype) member
+          (in_filter (is_of_group name rtype) now member
+          (kept_in sets remove add change member there
+          (λ named. (let e = (key_test remove (key_of member)).1 named in
+          grind (arith, e, other)))) of) empty
+
+      no : (member : RecordSet) → IsAmong (group sets name rtype) member → ⊥
+      no member there =
+          let is = of_filter (is_of_group name rtype) sets member there in
+          by member is.0 is.1 (is_key_of remove (key_of member)) refl
+
+  -- so an alias that was there leads to a set, as it did
+  pub still_led : (set : RecordSet) → IsAmong sets set → NoneHas (HasNoTarget sets) sets
+      → HasNoTarget now set → ⊥
+  still_led set there led (alias, empty) = led set there (alias, by set.body alias empty)
+    where
+      by : (what : Body) → IsAlias what → target_group_of now set.rtype what ≡ []
+          → target_group_of sets set.rtype what ≡ []
+      by (body.Values ttl values) is e = refl
+      by (body.Alias target evaluate) is e = had_none target set.rtype e
+
 -- ---- where no alias is added
 
 module _ (sets : List RecordSet) (remove : List SetKey) (add : List RecordSet)
@@ -105,49 +156,10 @@ module _ (sets : List RecordSet) (remove : List SetKey) (add : List RecordSet)
       let at = starts_at after sets each set 17 deep in
       shallow set (each set at.0 at.1) (starts_in after sets each set 17 deep)
 
-  -- a set of a group names it by its key
-  of_group : (name : List (List ℕ)) (rtype : RType) (set : RecordSet)
-      → is_of_group name rtype set ≡ true → (name ≡ set.name) × (rtype ≡ set.rtype)
-  of_group name rtype set e =
-      let parts = and_parts (same_labels name set.name) (number_of rtype == number_of set.rtype) e in (
-        (same_labels-Decides name set.name).0 parts.0,
-        one_number rtype set.rtype ((Decides-eqb (number_of rtype) (number_of set.rtype)).0 parts.1),
-      )
-
-  module _ (filled : EmptiesGroup remove after → ⊥) where
-    -- a group that has no set now had none
-    had_none : (name : List (List ℕ)) (rtype : RType) → group after name rtype ≡ []
-        → group sets name rtype ≡ []
-    had_none name rtype empty = is_empty (group sets name rtype) no
-      where
-        by : (member : RecordSet) → IsAmong sets member → is_of_group name rtype member ≡ true
-            → (b : Bool) → is_key_of remove (key_of member) ≡ b → ⊥
-        by member there of true named =
-            let is = of_group name rtype member of in
-            let none_left : group after member.name member.rtype ≡ [] =
-            subst (λ (n : List (List ℕ)). group after n member.rtype ≡ []) is.0
-            (subst (λ (t : RType). group after name t ≡ []) is.1 empty) in
-            filled (key_of member, (key_test remove (key_of member)).0 named, none_left)
-        by member there of false other =
-            has_some (group after name rtype) member
-            (in_filter (is_of_group name rtype) after member
-            (kept_in sets remove add change member there
-            (λ named. (let e = (key_test remove (key_of member)).1 named in
-            grind (arith, e, other)))) of) empty
-
-        no : (member : RecordSet) → IsAmong (group sets name rtype) member → ⊥
-        no member there =
-            let is = of_filter (is_of_group name rtype) sets member there in
-            by member is.0 is.1 (is_key_of remove (key_of member)) refl
-
-    targets : NoneHas (HasNoTarget sets) sets → NoneHas (HasNoTarget after) after
-    targets led set there (alias, empty) =
-        led set (was_there set there alias).0 (alias, by set.body alias empty)
-      where
-        by : (what : Body) → IsAlias what → target_group_of after set.rtype what ≡ []
-            → target_group_of sets set.rtype what ≡ []
-        by (body.Values ttl values) is e = refl
-        by (body.Alias target evaluate) is e = had_none target set.rtype e
+  targets : (EmptiesGroup remove after → ⊥) → NoneHas (HasNoTarget sets) sets
+      → NoneHas (HasNoTarget after) after
+  targets filled led set there lost =
+      still_led sets remove add change filled set (was_there set there lost.0).0 led lost
 
 pub stay : AliasesStay
 stay = record { walks = walks; targets = targets }

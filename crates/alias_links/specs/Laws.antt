@@ -1,5 +1,5 @@
 -- When the aliases of a zone need no look.
-use Rattle.std.specs.Prelude.{◌≡◌, ◌<◌, ℕ, List, [], Some, slice_get}
+use Rattle.std.specs.Prelude.{◌≡◌, ◌<◌, ◌⊎◌, ℕ, List, [], Some, slice_get}
 use Rattle.std.specs.List.{AllByRecursion}
 use Rattle.alias_links.specs.After.{changed}
 use Rattle.record_set.specs.Reasons.{IsAlias}
@@ -9,7 +9,7 @@ use Rattle.record_set.specs.declared.sets.SetKey.{SetKey}
 use Rattle.zone_table.specs.Changes.{DifferByKey, IsKeyOf}
 use Rattle.zone_table.specs.Placing.{IsThere}
 use Rattle.zone_table.specs.Walks.{HasNoTarget, IsTooDeep}
-use Rattle.zone_table.specs.Sets.{IsAmong, group}
+use Rattle.zone_table.specs.Sets.{IsAmong, group, target_group}
 
 -- an alias is among the sets
 abbrev pub HasAlias : List RecordSet → Type 0
@@ -37,6 +37,20 @@ pub record IsChange (sets : List RecordSet) (remove : List SetKey) (add : List R
 abbrev pub NoneHas : (RecordSet → Type 0) → List RecordSet → Type 0
 NoneHas Has sets = (set : RecordSet) → IsAmong sets set → Has set → ⊥
 
+-- An alias that comes is the last of each walk that comes to it: none of its target group is an alias. And walks came as
+-- far as its group already, or none did: there was an alias in it, or no set.
+pub record EndsWalks (sets add : List RecordSet) (alias : RecordSet) : Type 0 where
+  pub last : HasAlias (target_group sets alias) → ⊥
+  pub stays_last : HasAlias (target_group add alias) → ⊥
+  pub beside : (group sets alias.name alias.rtype ≡ []) ⊎ HasAlias (group sets alias.name alias.rtype)
+
+abbrev pub AllEndWalks : (sets add : List RecordSet) → Type 0
+AllEndWalks sets add = (set : RecordSet) → IsAmong add set → IsAlias set.body → EndsWalks sets add set
+
+-- each alias that is added leads to a set after the change
+abbrev pub AllLead : (add after : List RecordSet) → Type 0
+AllLead add after = NoneHas (HasNoTarget after) add
+
 pub record AliasesStay : Type 0 where
   -- where no alias is added no walk of 17 links begins
   pub walks : (sets : List RecordSet) (remove : List SetKey) (add : List RecordSet)
@@ -46,4 +60,16 @@ pub record AliasesStay : Type 0 where
   pub targets : (sets : List RecordSet) (remove : List SetKey) (add : List RecordSet)
       → IsChange sets remove add → (HasAlias add → ⊥)
       → (EmptiesGroup remove (changed sets remove add) → ⊥) → NoneHas (HasNoTarget sets) sets
+      → NoneHas (HasNoTarget (changed sets remove add)) (changed sets remove add)
+
+pub record AliasesCome : Type 0 where
+  -- where each alias that is added ends walks no walk of 17 links begins
+  pub walks : (sets : List RecordSet) (remove : List SetKey) (add : List RecordSet)
+      → IsChange sets remove add → AllEndWalks sets add → NoneHas (HasNoTarget sets) sets
+      → NoneHas (IsTooDeep sets) sets
+      → NoneHas (IsTooDeep (changed sets remove add)) (changed sets remove add)
+  -- where no group is emptied, and each alias that is added leads to a set, each alias does
+  pub targets : (sets : List RecordSet) (remove : List SetKey) (add : List RecordSet)
+      → IsChange sets remove add → (EmptiesGroup remove (changed sets remove add) → ⊥)
+      → AllLead add (changed sets remove add) → NoneHas (HasNoTarget sets) sets
       → NoneHas (HasNoTarget (changed sets remove add)) (changed sets remove add)

@@ -145,7 +145,7 @@ fn first_of_group(
 }
 
 /// Whether a set has the name and the type.
-fn is_of_group(set: &RecordSet, name: &Name, rtype: RType) -> bool
+pub fn is_of_group(set: &RecordSet, name: &Name, rtype: RType) -> bool
     ensures { result ≡ is_of_group name.now rtype set.now }
 {
     name == &set.name && rtype.number() == set.rtype.number()

@@ -1,12 +1,12 @@
 //! The first alias that would lead to no set after a change.
 
-ghost use Rattle.std.specs.Prelude.{◌≡◌, ◌<◌, length, slice_get, Some};
+ghost use Rattle.std.specs.Prelude.{◌≡◌, ◌<◌, ◌↔◌, IsTrue, length, slice_get, Some};
 ghost use Rattle.record_set.specs.declared.sets.RecordSet.{RecordSet};
 ghost use Rattle.zone_table.specs.Walks.{HasNoTarget};
 ghost use Rattle.zone_table.specs.Edits.{IsAllowed};
 ghost use Rattle.zone_table.specs.declared.edits.ZoneEdit.TheVariants.{Change};
 ghost use Rattle.alias_links.specs.After.{IsFirstKey, changed_in, sets_in};
-ghost use Rattle.alias_links.specs.Laws.{IsChange};
+ghost use Rattle.alias_links.specs.Laws.{AllLead, IsChange};
 ghost use Rattle.alias_links.specs.Leasts.{LeastOrNone, StaysWithout, TellsIf};
 
 use crate::groups::is_filled;
@@ -104,6 +104,20 @@ fn missing_at(
         return None;
     }
     Some(key)
+}
+
+/// Whether each alias that is added leads to a set after the change.
+pub fn all_lead(
+    zones: &Zones,
+    zone: u32,
+    remove: &[SetKey],
+    add: &[RecordSet],
+    scratch: &mut Scratch,
+) -> bool
+    requires { IsAllowed zones.now.zones (Change zone remove.now add.now) }
+    ensures { IsTrue result ↔ AllLead add.now (changed_in zones.now.zones zone remove.now add.now) }
+{
+    missing_added(zones, zone, remove, add, scratch).is_none()
 }
 
 /// The least key of the sets that are added and lead to no set.

@@ -8,6 +8,7 @@ ghost use Rattle.zone_table.specs.Telling.{target_of};
 ghost use Rattle.zone_table.specs.Changes.{IsKeyOf};
 ghost use Rattle.zone_table.specs.Looking.{IsGroupNow};
 ghost use Rattle.alias_links.specs.After.{sets_in};
+ghost use Rattle.alias_links.specs.Aliases.{is_alias_set};
 
 use crate::keys::{is_key_of, key_in};
 use dns_name::Name;
@@ -60,6 +61,18 @@ pub fn stays_at(
 {
     hold_member(zones, group, i, scratch);
     !is_key_of(remove, &key_in(scratch))
+}
+
+/// Whether the set at a place of a group is an alias.
+pub fn is_alias_at(zones: &Zones, group: Group, i: usize) -> bool
+    requires group { IsGroupNow zones.now.zones group }
+    requires within { i < group.length }
+    ensures { (set : RecordSet)
+        → slice_get (sets_in zones.now.zones group.zone) (group.start + i) ≡ Some set
+        → result ≡ is_alias_set set }
+{
+    zones.well_formed();
+    zones.target(zones.member(group, i)).is_some()
 }
 
 /// Holds the set at a place of a group.

@@ -10,7 +10,10 @@ ghost use Rattle.zone_model.specs.Walks.{HasNoTarget, IsTooDeep};
 ghost use Rattle.config_zones.specs.Edits.{IsAllowed};
 ghost use Rattle.config_zones.specs.ZoneEditRecord.TheVariants.{Change};
 
-use alias_links::{adds_alias, aliases_stay, empties_group, missing_after, walk_after};
+use alias_links::{
+    adds_alias, aliases_come, aliases_stay, all_end_walks, all_lead, empties_group, missing_after,
+    walk_after,
+};
 use config_zones::{Refusal, Scratch, Zones, refusals_are_told};
 use octets::OutOfMemory;
 use record_set::{RecordSet, SetKey};
@@ -67,7 +70,7 @@ fn target_refusal(
     }
 }
 
-/// Whether the change alone says that each alias still leads to a set.
+/// Whether each alias still leads to a set, told by what goes and what comes alone.
 fn are_led(
     zones: &Zones,
     zone: u32,
@@ -82,12 +85,16 @@ fn are_led(
         → NoneHas (HasNoTarget (changed_in zones.now.zones zone remove.now add.now))
         (changed_in zones.now.zones zone remove.now add.now) }
 {
-    aliases_stay();
-    if adds_alias(add) {
+    aliases_come();
+    if empties_group(zones, zone, remove, add, scratch) {
         return false;
     }
-    !empties_group(zones, zone, remove, add, scratch)
+    all_lead(zones, zone, remove, add, scratch)
 }
+
+/// Of so many sets at most that come it is asked whether each alias among them ends walks: each is compared with
+/// each.
+const FEW: usize = 64;
 
 /// The first set from which aliases would lead on too far.
 fn depth_refusal(
@@ -99,19 +106,43 @@ fn depth_refusal(
     scratch: &mut Scratch,
 ) -> Result<Option<Refusal>, OutOfMemory>
     requires allowed { IsAllowed zones.now.zones (Change zone remove.now add.now) }
+    requires targets { NoneHas (HasNoTarget (sets_in zones.now.zones zone))
+        (sets_in zones.now.zones zone) }
     requires walks { NoneHas (IsTooDeep (sets_in zones.now.zones zone))
         (sets_in zones.now.zones zone) }
     ensures { IfOk result (λ told. told ≡ first_among
         (depth_refusal (changed_in zones.now.zones zone remove.now add.now))
         (changed_in zones.now.zones zone remove.now add.now)) }
 {
-    aliases_stay();
     refusals_are_told();
-    if !adds_alias(add) {
+    if are_short(zones, zone, remove, add) {
         return Ok(None);
     }
     let first = walk_after(alloc, zones, zone, remove, add, scratch)?;
     Ok(too_deep(first))
+}
+
+/// Whether no walk of aliases comes to be too long, told by what comes alone: no alias does, or few sets come, and
+/// each alias among them ends walks.
+fn are_short(zones: &Zones, zone: u32, remove: &[SetKey], add: &[RecordSet]) -> bool
+    requires allowed { IsAllowed zones.now.zones (Change zone remove.now add.now) }
+    requires targets { NoneHas (HasNoTarget (sets_in zones.now.zones zone))
+        (sets_in zones.now.zones zone) }
+    requires walks { NoneHas (IsTooDeep (sets_in zones.now.zones zone))
+        (sets_in zones.now.zones zone) }
+    ensures { result ≡ true
+        → NoneHas (IsTooDeep (changed_in zones.now.zones zone remove.now add.now))
+        (changed_in zones.now.zones zone remove.now add.now) }
+{
+    aliases_stay();
+    aliases_come();
+    if !adds_alias(add) {
+        return true;
+    }
+    if add.len() > FEW {
+        return false;
+    }
+    all_end_walks(zones, zone, add)
 }
 
 /// The refusal of the set of this key, if there is one.

@@ -1,19 +1,13 @@
 use Rattle.std.proofs.Common.{◌∙◌, sym}
-use Rattle.std.proofs.lemmas.Bool.{false≢true}
-use Rattle.alias_links.proofs.Changing.{is_change}
-use Rattle.alias_links.specs.After.{changed_in, sets_in}
+use Rattle.alias_links.specs.After.{changed_in}
 use Rattle.batch_commands.proofs.Linked.{all_shallow, depth_told}
 use Rattle.batch_commands.proofs.links.depth_refusal.Goals as goal
 
-pub returns-then-not-adds_alias : goal.returns-then-not-adds_alias
-returns-then-not-adds_alias c =
+pub returns-then-are_short : goal.returns-then-are_short
+returns-then-are_short c =
     let zones = c.args.zones.now.zones in
     sym (all_shallow (changed_in zones c.args.zone c.args.remove.now c.args.add.now)
-    c.refusals_are_told.ensures
-    (c.aliases_stay.ensures.walks (sets_in zones c.args.zone) c.args.remove.now c.args.add.now
-    (is_change zones c.args.zone c.args.remove.now c.args.add.now c.requires.allowed)
-    (λ has. false≢true (sym c.if-not-adds_alias.true ∙ c.adds_alias.ensures.1 has))
-    c.requires.walks))
+    c.refusals_are_told.ensures (c.are_short.ensures c.if-are_short.true))
 
 pub returns : goal.returns
 returns c =
