@@ -2,6 +2,7 @@ pub mod Few
 pub mod Held
 pub mod Picks
 pub mod Places
+pub mod Pieces
 pub mod Regions
 pub mod Shapes
 pub mod Sound

@@ -2,7 +2,7 @@
 
 ghost use Rattle.std.specs.Prelude.{◌≡◌, ◌≤◌, ◌<◌, ◌+◌, ◌-◌, ◌%◌, ◌++◌, ℕ, List, drop, take, length};
 ghost use Rattle.std.specs.Prelude.{IsTrue, ◌↔◌, None, Some, false};
-ghost use Rattle.octet_region.specs.Cells.{number_at};
+ghost use Rattle.octet_region.specs.Cells.{begin_at, number_at};
 ghost use Rattle.octet_region.specs.Chains.{octets_in};
 ghost use Rattle.octet_region.specs.Shape.{octets_of, AreWhole, IsChain};
 ghost use Rattle.octet_region.specs.Stored.{Copies, CopiesFrom, StandsAt, front_of, length_of, piece_of};
@@ -15,6 +15,7 @@ use octets::{behind, front, put_at};
 #[inline(always)]
 pub(crate) fn is_live(cells: &[Cell], first: u32) -> bool
     requires { AreWhole cells.now }
+    ensures begins { IsTrue result ↔ (begin_at cells.now first ≡ 1) }
     ensures chain { IsTrue result → IsChain cells.now first }
     ensures some { IsTrue result
         → octets_of cells.now first ≡ Some (octets_in cells.now first) }
@@ -39,13 +40,13 @@ fn size_along(cells: &[Cell], first: u32) -> usize
     requires { IsChain cells.now first }
     ensures { result ≡ length (octets_in cells.now first) }
 {
+    let mut cell = first;
     let mut size = 0;
-    let mut link = link_at(cells, first);
-    while goes_on(link) {
-        link = link_at(cells, next_of(link));
+    while goes_on(link_at(cells, cell)) {
+        cell = next_of(link_at(cells, cell));
         size += CELL;
     }
-    size + count_of(link)
+    size + count_of(link_at(cells, cell))
 }
 
 /// The octets of a handle that stand in its first cell.
@@ -288,24 +289,26 @@ fn reaches(cells: &[Cell], first: u32, offset: usize, count: usize) -> bool
     requires near { offset < 32 }
     ensures { IsTrue result ↔ (offset + count ≤ length (octets_in cells.now first)) }
 {
-    let mut link = link_at(cells, first);
+    let mut cell = first;
     let mut from = offset;
     let mut left = count;
     while left > CELL - from {
+        let link = link_at(cells, cell);
         if !goes_on(link) {
             return false;
         }
-        link = link_at(cells, next_of(link));
+        cell = next_of(link);
         left -= CELL - from;
         from = 0;
     }
-    from + left <= count_of(link)
+    from + left <= count_of(link_at(cells, cell))
 }
 
 /// Whether the octets of a chain go on with others from a place in its first cell on.
 fn compare_along(cells: &[Cell], first: u32, offset: usize, octets: &[u8]) -> bool
     requires chain { IsChain cells.now first }
     requires near { offset < 32 }
+    requires some { 0 < length octets.now }
     ensures { IsTrue result
         ↔ (take (length octets.now) (drop offset (octets_in cells.now first)) ≡ octets.now) }
 {

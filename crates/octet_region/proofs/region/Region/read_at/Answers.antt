@@ -1,0 +1,18 @@
+use Rattle.std.proofs.Common.{ap, subst}
+use Rattle.octet_region.specs.Stored.{Stored, CopiesFrom}
+use Rattle.octet_region.proofs.Regions.{seen, whole_of}
+use Rattle.octet_region.proofs.region.Region.read_at.Goals as goal
+
+pub copy_part-requires : goal.copy_part-requires
+copy_part-requires c =
+    whole_of c.self.inside.cells.items _ c.self.inside.free c.self.inside.spare c.self.invariant
+    c.deref.ensures.value
+
+pub returns : goal.returns
+returns c =
+    let held = ap (λ (s : Stored). s.held) c.self.view_is in
+    let is =
+    seen c.self.inside.cells.items c.args.self.now _ _ c.args.handle c.deref.ensures.value
+    c.handle.view_is held in
+    subst (λ o. CopiesFrom o c.args.offset c.args.into.now c.copy_part.result c.copy_part.new.into) is
+    c.copy_part.ensures
