@@ -1,5 +1,5 @@
 -- A walk has no more cells than there are.
-use Rattle.std.proofs.Common.{◌≡◌, ℕ, zero, suc, ◌+◌, ◌-◌, ◌<◌, ◌≤◌, subst, arith, inl, inr}
+use Rattle.std.proofs.Common.{ℕ, zero, suc, ◌+◌, ◌-◌, ◌<◌, ◌≤◌, subst, arith, inl, inr}
 use Rattle.std.specs.Prelude.{min}
 use Rattle.octet_region.specs.Chains.{Walk}
 use Rattle.octet_region.proofs.Picks.{at_or_not}

@@ -1,5 +1,5 @@
 -- The octets of a chain, cell by cell.
-use Rattle.std.proofs.Common.{◌≡◌, ℕ, zero, suc, ◌+◌, ◌-◌, ◌*◌, ◌/◌, ◌%◌, ◌<◌, ◌≤◌, List, [], ◌∷◌, ◌++◌, take, drop, length, ap, sym, refl, subst, ◌∙◌, arith, length-append, length-drop, length-take, append_assoc, inl, inr}
+use Rattle.std.proofs.Common.{◌≡◌, ℕ, zero, suc, ◌+◌, ◌-◌, ◌*◌, ◌/◌, ◌%◌, ◌<◌, ◌≤◌, List, [], ◌∷◌, ◌++◌, take, drop, length, ap, sym, refl, ◌∙◌, arith, length-append, length-drop, length-take, append_assoc, inl, inr}
 use Rattle.std.specs.Prelude.{min, ◌↔◌, ◌⊎◌, IsTrue, false}
 use Rattle.std.proofs.lemmas.List.{take-append-drop, drop-append-le, drop-take, take_all, append-nil}
 use Rattle.std.proofs.Math.Seq.{take-append_seam}
@@ -211,9 +211,14 @@ module _ (cells : List Cell) (c : ℕ) (s : IsChain cells c) where
   piece_none from k h near =
       let last : number_at cells c ≤ 32 = last_of (more_or_last (number_at cells c)) in
       no_items (take k (drop from (octets_in cells c)))
-      (omega
-      (arith, length-take k (drop from (octets_in cells c)), length-drop from (octets_in cells c),
-          last_length last, h, last))
+      (omega (
+        arith,
+        length-take k (drop from (octets_in cells c)),
+        length-drop from (octets_in cells c),
+        last_length last,
+        h,
+        last,
+      ))
     where
       last_of : (32 < number_at cells c) ⊎ (number_at cells c ≤ 32) → number_at cells c ≤ 32
       last_of (inl more) = near (omega (arith, h, more))

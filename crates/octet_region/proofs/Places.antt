@@ -124,4 +124,3 @@ write_step cells c rest new on left more h e f g =
       rw
           (e, f, g) (jump_on cells c rest more w.0),
     )
-

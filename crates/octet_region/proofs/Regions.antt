@@ -3,7 +3,6 @@ use Rattle.std.proofs.Common.{◌≡◌, ℕ, zero, suc, ◌+◌, ◌<◌, ◌�
 use Rattle.std.specs.FinMap as map
 use Rattle.octet_region.specs.declared.cells.Cell.{Cell}
 use Rattle.octet_region.specs.Cells.{cells_for, octets_at, number_at, begin_at}
-use Rattle.octet_region.specs.Chains.{octets_in}
 use Rattle.octet_region.specs.Shape.{held_in, octets_by, octets_of, AreWhole, IsIntact}
 use Rattle.octet_region.specs.Stored.{Stored, Held, Frees}
 use Rattle.octet_region.proofs.Held.{get_held, remove_here, remove_there}

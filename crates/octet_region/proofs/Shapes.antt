@@ -1,5 +1,5 @@
 -- What a put, a free and a new cell leave of the shape of all chains.
-use Rattle.std.proofs.Common.{◌≡◌, ℕ, zero, suc, ◌+◌, ◌-◌, ◌*◌, ◌<◌, ◌≤◌, List, length, ap, sym, refl, subst, ◌∙◌, arith, inl, inr, None, Some}
+use Rattle.std.proofs.Common.{◌≡◌, ℕ, zero, suc, ◌+◌, ◌-◌, ◌*◌, ◌<◌, ◌≤◌, List, length, ap, sym, refl, subst, ◌∙◌, arith, inl, inr, Some}
 use Rattle.octet_region.specs.Cells.{cells_for}
 use Rattle.octet_region.specs.Chains.{behind_by, jump, Ends, gather, Walk}
 use Rattle.octet_region.specs.Shape.{octets_by, IsLive, IsShaped}

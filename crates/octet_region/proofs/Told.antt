@@ -1,5 +1,5 @@
 -- What is told of a chain by the numbers of its links: that it ends, its octets, and how many cells it has.
-use Rattle.std.proofs.Common.{◌≡◌, ℕ, zero, suc, ◌+◌, ◌-◌, ◌*◌, ◌<◌, ◌≤◌, List, [], ◌++◌, take, length, ap, sym, refl, subst, ◌∙◌, arith, length-append, length-take, inl, inr}
+use Rattle.std.proofs.Common.{◌≡◌, ℕ, zero, suc, ◌+◌, ◌-◌, ◌*◌, ◌<◌, ◌≤◌, List, ◌++◌, take, length, ap, sym, refl, ◌∙◌, arith, length-append, length-take, inl, inr}
 use Rattle.std.specs.Prelude.{◌⊎◌, min}
 use Rattle.std.proofs.lemmas.List.{take_all, append-nil}
 use Rattle.octet_region.specs.Cells.{cells_for}

@@ -31,12 +31,20 @@ module _ (owner rank number : ℕ → ℕ) (size : ℕ) where
       → 32 < number (jump (behind_by number) n c)
       → Walk owner rank number size o b k (jump (behind_by number) (suc n) c) → Walk owner rank number size o b t c
   walk_join o b k n zero c e w on v = absurd (omega arith)
-  walk_join o b k zero (suc t) c e w on v =
-      (w.0, w.1, omega (arith, w.2, e), λ some. on,
-          subst (λ t. Walk owner rank number size o b t (number c - 33)) (omega arith) v)
-  walk_join o b k (suc n) (suc t) c e w on v =
-      (w.0, w.1, omega (arith, w.2, e), λ some. w.3 (omega arith),
-          walk_join o b k n t (number c - 33) (omega arith) w.4 on v)
+  walk_join o b k zero (suc t) c e w on v = (
+    w.0,
+    w.1,
+    omega (arith, w.2, e),
+    λ some. on,
+    subst (λ t. Walk owner rank number size o b t (number c - 33)) (omega arith) v,
+  )
+  walk_join o b k (suc n) (suc t) c e w on v = (
+    w.0,
+    w.1,
+    omega (arith, w.2, e),
+    λ some. w.3 (omega arith),
+    walk_join o b k n t (number c - 33) (omega arith) w.4 on v,
+  )
 
   -- the last cell of a walk
   pub walk_last : (o b n c : ℕ) → Walk owner rank number size o b (suc n) c
@@ -71,6 +79,10 @@ module _ (owner rank number : ℕ → ℕ) (size : ℕ) where
           let v =
           walk_map o b p q (suc n) (number c - 33) larger w.4
           (λ d r s x y z. labels d r s x y (omega (arith, z)))
-          (λ d s x y z. links d s x y (omega (arith, z))) in
-          (omega (arith, w.0), l.0, l.1, λ some. omega (arith, e, w.3 some),
-              subst (λ x. Walk owner2 rank2 other size2 p q (suc n) (x - 33)) (sym e) v)
+          (λ d s x y z. links d s x y (omega (arith, z))) in (
+            omega (arith, w.0),
+            l.0,
+            l.1,
+            λ some. omega (arith, e, w.3 some),
+            subst (λ x. Walk owner2 rank2 other size2 p q (suc n) (x - 33)) (sym e) v,
+          )

@@ -1,7 +1,7 @@
 -- Chains of cells, by the numbers of their links.
 use Rattle.std.specs.Prelude.{◌≡◌, ℕ, zero, suc, ◌+◌, ◌-◌, ◌<◌, List, [], ◌++◌, drop, take, length}
 use Rattle.octet_region.specs.declared.cells.Cell.{Cell}
-use Rattle.octet_region.specs.Cells.{cells_for, number_at, next_at, octets_at, write_at}
+use Rattle.octet_region.specs.Cells.{number_at, next_at, octets_at, write_at}
 
 -- the cell behind each
 abbrev pub behind_by : (number : ℕ → ℕ) → ℕ → ℕ

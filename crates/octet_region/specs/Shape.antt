@@ -1,9 +1,9 @@
 -- How cells stand for what is held.
-use Rattle.std.specs.Prelude.{◌≡◌, ℕ, zero, suc, ◌+◌, ◌-◌, ◌*◌, ◌/◌, ◌%◌, ◌<◌, ◌≤◌, ◌^◌, List, [], ◌∷◌, length, Option, None, Some}
+use Rattle.std.specs.Prelude.{◌≡◌, ℕ, zero, suc, ◌+◌, ◌-◌, ◌*◌, ◌%◌, ◌<◌, ◌≤◌, ◌^◌, List, [], ◌∷◌, length, Option, None, Some}
 use Rattle.std.specs.FinMap as map
 use Rattle.octet_region.specs.declared.cells.Cell.{Cell}
 use Rattle.octet_region.specs.Cells.{cells_for, octets_at, number_at, begin_at}
-use Rattle.octet_region.specs.Chains.{behind_by, jump, gather, Walk, HasCells, octets_in}
+use Rattle.octet_region.specs.Chains.{behind_by, jump, gather, Walk, HasCells}
 use Rattle.octet_region.specs.Stored.{Held, Stored}
 
 -- the octets of the chain from c on, where one of a handle begins there

@@ -5,7 +5,9 @@ ghost use Rattle.octet_region.specs.Cells.{cells_for, next_at, begin_at};
 ghost use Rattle.octet_region.specs.Chains.{jump, IsInside, written, steps_in};
 ghost use Rattle.octet_region.specs.Shape.{octets_of, IsChain, IsIntact};
 
-use crate::cells::{CELL, Cell, FIRST, begin_as, goes_on, link_at, next_at, next_of, number_as, write_at};
+use crate::cells::{
+    CELL, Cell, FIRST, begin_as, goes_on, link_at, next_at, next_of, number_as, write_at,
+};
 use octets::{behind, front};
 
 /// Writes octets to the chain from a cell on, and answers the last cell written, and how many

@@ -11,7 +11,9 @@ use crate::Handle;
 use crate::cells::{Cell, cells_for};
 use crate::chains::{free_along, put_along};
 use crate::growth::{give_cells, make_room};
-use crate::reads::{copy_part, copy_whole, front_at, is_live, piece_at, pieces_at, size_at, stand_at};
+use crate::reads::{
+    copy_part, copy_whole, front_at, is_live, piece_at, pieces_at, size_at, stand_at,
+};
 use octets::OutOfMemory;
 use std::alloc::Global;
 use std::marker::Model;

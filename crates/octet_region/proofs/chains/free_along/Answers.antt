@@ -1,6 +1,6 @@
 use Rattle.std.proofs.Common.{◌≡◌, ℕ, ◌+◌, ap, sym, ◌∙◌, subst, List, length, Some}
 use Rattle.octet_region.specs.declared.cells.Cell.{Cell}
-use Rattle.octet_region.specs.Cells.{cells_for, octets_at, number_at, begin_at, number_as, begin_as}
+use Rattle.octet_region.specs.Cells.{cells_for, octets_at, number_at, begin_as}
 use Rattle.octet_region.specs.Chains.{octets_in}
 use Rattle.octet_region.specs.Shape.{octets_by, octets_of, IsIntact}
 use Rattle.octet_region.proofs.Sound.{live_chain, live_cells, last_there, free_sound, free_here, free_there2}

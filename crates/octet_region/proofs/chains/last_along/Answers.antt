@@ -1,8 +1,8 @@
-use Rattle.std.proofs.Common.{◌≡◌, ◌+◌, ◌/◌, ◌<◌, ◌^◌, ap, sym, ◌∙◌, subst, arith, refl, length}
-use Rattle.octet_region.specs.Cells.{link_at, number_at, next_at}
+use Rattle.std.proofs.Common.{◌≡◌, ◌/◌, ◌<◌, ap, sym, ◌∙◌, subst, arith, refl, length}
+use Rattle.octet_region.specs.Cells.{number_at, next_at}
 use Rattle.octet_region.specs.Chains.{jump, steps_in}
 use Rattle.octet_region.specs.Shape.{IsChain}
-use Rattle.octet_region.proofs.Pieces.{chain_there, chain_on, steps_below, more_steps, last_steps}
+use Rattle.octet_region.proofs.Pieces.{chain_there, chain_on, steps_below, more_steps}
 use Rattle.octet_region.proofs.chains.last_along.Goals as goal
 
 pub overflow_add-count : goal.overflow_add-count
@@ -48,4 +48,3 @@ loop-cell-preserved c =
           ∙ ap (λ d. jump (next_at cells) (steps_in cells d) d) (sym next);
       count = omega (arith, count, steps, ap (steps_in cells) next);
     }
-

@@ -1,7 +1,6 @@
-use Rattle.std.proofs.Common.{◌≡◌, ◌+◌, ◌<◌, length, ap, ◌∙◌, subst, arith, List}
+use Rattle.std.proofs.Common.{length, ap, ◌∙◌, arith, List}
 use Rattle.octet_region.specs.declared.cells.Cell.{Cell}
 use Rattle.octet_region.specs.Cells.{cells_for, next_at, number_as, begin_as}
-use Rattle.octet_region.specs.Chains.{written}
 use Rattle.octet_region.specs.Shape.{octets_of}
 use Rattle.octet_region.proofs.Sound.{put_inside, free_there, put_fresh, put_last_there, put_sound, put_here, put_there}
 use Rattle.octet_region.proofs.Written.{length_written}
@@ -17,9 +16,12 @@ next_at-next-requires c =
     let there =
     put_last_there c.args.cells.now c.args.free c.args.spare c.args.octets.now c.requires.sound c.requires.enough
     w.result.0 w.result.1 w.ensures.last w.ensures.count in
-    omega
-    (arith, there, ap length w.ensures.cells,
-        length_written c.args.cells.now (cells_for (length c.args.octets.now)) c.args.free c.args.octets.now)
+    omega (
+      arith,
+      there,
+      ap length w.ensures.cells,
+      length_written c.args.cells.now (cells_for (length c.args.octets.now)) c.args.free c.args.octets.now,
+    )
 
 pub number_as-requires-clause-within : goal.number_as-requires-clause-within
 number_as-requires-clause-within c =
@@ -27,9 +29,12 @@ number_as-requires-clause-within c =
     let there =
     put_last_there c.args.cells.now c.args.free c.args.spare c.args.octets.now c.requires.sound c.requires.enough
     w.result.0 w.result.1 w.ensures.last w.ensures.count in
-    omega
-    (arith, there, ap length w.ensures.cells,
-        length_written c.args.cells.now (cells_for (length c.args.octets.now)) c.args.free c.args.octets.now)
+    omega (
+      arith,
+      there,
+      ap length w.ensures.cells,
+      length_written c.args.cells.now (cells_for (length c.args.octets.now)) c.args.free c.args.octets.now,
+    )
 
 pub returns-clause-sound : goal.returns-clause-sound
 returns-clause-sound c =

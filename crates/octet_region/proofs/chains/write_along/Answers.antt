@@ -1,7 +1,7 @@
-use Rattle.std.proofs.Common.{◌≡◌, ◌<◌, ◌-◌, take, length, ap, sym, ◌∙◌, arith, length-take, length-drop, List}
+use Rattle.std.proofs.Common.{◌≡◌, take, length, ap, sym, ◌∙◌, arith, length-take, length-drop, List}
 use Rattle.octet_region.specs.declared.cells.Cell.{Cell}
-use Rattle.octet_region.specs.Cells.{cells_for, next_at, write_at}
-use Rattle.octet_region.proofs.Places.{inside_last, next_write, write_step, written_last, jump_last}
+use Rattle.octet_region.specs.Cells.{next_at, write_at}
+use Rattle.octet_region.proofs.Places.{inside_last, next_write, write_step, written_last}
 use Rattle.octet_region.proofs.Written.{length_write}
 use Rattle.octet_region.proofs.chains.write_along.Goals as goal
 

@@ -1,4 +1,4 @@
-use Rattle.std.proofs.Common.{◌≡◌, ◌-◌, ◌+◌, ◌<◌, ◌≤◌, ap, sym, ◌∙◌, subst, arith, length, length-drop, refl}
+use Rattle.std.proofs.Common.{◌-◌, ◌+◌, ◌<◌, ◌≤◌, ap, sym, ◌∙◌, subst, arith, length, length-drop, refl}
 use Rattle.std.specs.Prelude.{min}
 use Rattle.octet_region.specs.Cells.{link_at, number_at}
 use Rattle.octet_region.specs.Chains.{octets_in}

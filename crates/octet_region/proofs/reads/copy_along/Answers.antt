@@ -41,9 +41,14 @@ loop-from-preserved c =
       order = omega (arith, far, same);
       long = sym same ∙ i.long;
       fits =
-          omega
-          (arith, fits, far, same, more_length cells l.cell i.chain more,
-              ap (λ d. length (octets_in cells d)) next);
+          omega (
+            arith,
+            fits,
+            far,
+            same,
+            more_length cells l.cell i.chain more,
+            ap (λ d. length (octets_in cells d)) next,
+          );
       copied = copy_step cells l.cell i.chain l.from c.next_of-cell.result
           (length new) l.at (l.at + (32 - l.from)) l.into new c.octets_at.result.now c.behind.result.now _
           more near (omega (arith, far, same)) c.octets_at.ensures.value c.behind.ensures next refl

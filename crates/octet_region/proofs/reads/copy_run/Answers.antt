@@ -1,5 +1,5 @@
-use Rattle.std.proofs.Common.{◌≡◌, ◌+◌, ◌<◌, ◌≤◌, ap, sym, ◌∙◌, subst, arith, take, drop, length, refl}
-use Rattle.octet_region.specs.Cells.{link_at, number_at}
+use Rattle.std.proofs.Common.{◌≡◌, ap, sym, ◌∙◌, subst, arith, length, refl}
+use Rattle.octet_region.specs.Cells.{link_at}
 use Rattle.octet_region.specs.Chains.{octets_in, steps_in}
 use Rattle.octet_region.specs.Shape.{IsChain}
 use Rattle.octet_region.proofs.Pieces.{chain_there, chain_on, more_is, last_is, next_is, count_is, more_length, more_steps, run_step, run_last}

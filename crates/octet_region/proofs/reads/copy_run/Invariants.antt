@@ -1,4 +1,4 @@
-use Rattle.std.proofs.Common.{◌≡◌, ◌≤◌, ◌+◌, ◌++◌, length, take, drop}
+use Rattle.std.proofs.Common.{◌≡◌, ◌+◌, ◌++◌, length, take, drop}
 use Rattle.octet_region.specs.Cells.{link_at}
 use Rattle.octet_region.specs.Chains.{octets_in, steps_in}
 use Rattle.octet_region.specs.Shape.{IsChain}

@@ -1,4 +1,4 @@
-use Rattle.std.proofs.Common.{◌≡◌, ◌+◌, ◌<◌, ap, sym, ◌∙◌, arith, length, take}
+use Rattle.std.proofs.Common.{◌+◌, ◌<◌, ap, sym, ◌∙◌, arith, length, take}
 use Rattle.octet_region.specs.Chains.{octets_in}
 use Rattle.octet_region.proofs.Pieces.{last_length, too_few}
 use Rattle.octet_region.proofs.reads.is_within.Goals as goal

@@ -1,4 +1,4 @@
-use Rattle.std.proofs.Common.{◌≡◌, ◌<◌, ◌≤◌, ◌-◌, ◌%◌, ap, ◌∙◌, arith, take, drop}
+use Rattle.std.proofs.Common.{◌-◌, ◌%◌, ap, ◌∙◌, arith, take, drop}
 use Rattle.std.specs.Prelude.{min}
 use Rattle.octet_region.specs.Cells.{link_at, number_at}
 use Rattle.octet_region.proofs.Pieces.{count_is, piece_is, piece_none}

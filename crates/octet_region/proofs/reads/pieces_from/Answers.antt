@@ -1,5 +1,5 @@
-use Rattle.std.proofs.Common.{◌≡◌, ◌<◌, ◌≤◌, ◌++◌, [], ap, sym, ◌∙◌, subst, arith, refl, take, drop, inl, inr}
-use Rattle.octet_region.specs.Cells.{link_at, number_at, octets_at, next_at}
+use Rattle.std.proofs.Common.{◌<◌, ◌++◌, [], ap, sym, ◌∙◌, subst, refl, take, drop}
+use Rattle.octet_region.specs.Cells.{link_at, number_at, octets_at}
 use Rattle.octet_region.specs.Chains.{octets_in}
 use Rattle.octet_region.specs.Shape.{IsChain}
 use Rattle.octet_region.proofs.Pieces.{below, chain_on, more_is, last_is, next_is, pieces_last, pieces_more}

@@ -1,7 +1,6 @@
-use Rattle.std.proofs.Common.{◌≡◌, ◌+◌, ◌-◌, ◌≤◌, ap, sym, subst, arith, refl, length}
-use Rattle.std.specs.Prelude.{min, ◌↔◌}
+use Rattle.std.proofs.Common.{◌+◌, ap, sym, subst, arith, refl, length}
 use Rattle.std.proofs.lemmas.Bool.{leb-true, le-leb}
-use Rattle.octet_region.specs.Cells.{number_at, next_at, link_at}
+use Rattle.octet_region.specs.Cells.{link_at}
 use Rattle.octet_region.specs.Chains.{octets_in}
 use Rattle.octet_region.specs.Shape.{IsChain}
 use Rattle.octet_region.proofs.Pieces.{chain_on, more_is, next_is, count_is, more_length, in_first}

@@ -1,4 +1,4 @@
-use Rattle.std.proofs.Common.{◌≡◌, ◌+◌, ◌<◌, ◌≤◌, ◌↔◌, length}
+use Rattle.std.proofs.Common.{◌+◌, ◌<◌, ◌≤◌, ◌↔◌, length}
 use Rattle.octet_region.specs.Chains.{octets_in}
 use Rattle.octet_region.specs.Shape.{IsChain}
 use Rattle.octet_region.proofs.reads.reaches.Given as goal

@@ -1,5 +1,5 @@
-use Rattle.std.proofs.Common.{◌≡◌, ◌<◌, ap, sym, subst, arith, refl, length}
-use Rattle.octet_region.specs.Cells.{number_at, next_at, link_at}
+use Rattle.std.proofs.Common.{ap, sym, subst, arith, refl, length}
+use Rattle.octet_region.specs.Cells.{link_at}
 use Rattle.octet_region.specs.Chains.{octets_in, steps_in}
 use Rattle.octet_region.specs.Shape.{IsChain}
 use Rattle.octet_region.proofs.Pieces.{chain_on, chain_few, more_is, next_is, more_length, more_steps, front_few, count_is}

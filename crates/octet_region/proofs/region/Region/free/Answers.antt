@@ -1,11 +1,11 @@
-use Rattle.std.proofs.Common.{◌≡◌, ◌+◌, ◌<◌, ◌≤◌, ap, sym, ◌∙◌, List, length, subst, refl, arith, Option, None, Some, false}
+use Rattle.std.proofs.Common.{◌≡◌, ◌+◌, ap, sym, ◌∙◌, List, length, subst, refl, arith, None, Some, false}
 use Rattle.std.specs.FinMap as map
 use Rattle.std.specs.Vec.{with_items}
 use Rattle.std.proofs.lemmas.List.{with_items_is}
 use Rattle.octet_region.specs.declared.cells.Cell.{Cell}
-use Rattle.octet_region.specs.Cells.{cells_for, begin_at, octets_at, number_at}
+use Rattle.octet_region.specs.Cells.{cells_for, begin_at, number_at}
 use Rattle.octet_region.specs.Chains.{octets_in}
-use Rattle.octet_region.specs.Shape.{held_in, octets_by, octets_of, IsIntact}
+use Rattle.octet_region.specs.Shape.{held_in, octets_of}
 use Rattle.octet_region.specs.Stored.{Stored, Held, Frees}
 use Rattle.octet_region.proofs.Held.{get_held, held_free}
 use Rattle.octet_region.proofs.Regions.{seen, whole_of, frees, freed_gone, freed_others}
