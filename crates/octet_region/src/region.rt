@@ -18,7 +18,7 @@ use octets::OutOfMemory;
 use std::alloc::Global;
 use std::marker::Model;
 
-/// The most cells: their octets are four gibibytes.
+/// The most cells: their octets are four gibibytes. Links have room for 2^31 - 34.
 const MAX_CELLS: usize = 0x7ff_ffff;
 
 /// Octets by handles, in cells of 32.
@@ -148,7 +148,7 @@ impl Region {
         true
     }
 
-    /// How many octets a handle holds. None where it isn't live.
+    /// How many octets a handle holds, by a step for each 32 of them. None where it isn't live.
     pub fn length(&self, handle: Handle) -> Option<usize>
         ensures { result ≡ length_of (map.get self.now.held handle) }
     {
