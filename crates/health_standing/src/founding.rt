@@ -4,8 +4,8 @@
 ghost use Rattle.std.specs.Prelude.{◌≡◌, ◌≤◌, ◌<◌, ◌+◌, ◌-◌, ◌++◌, ◌^◌, ◌↔◌, ℕ, All, IsTrue, List, None, Option, Some, length, map};
 ghost use Rattle.std.specs.Prelude.{vec_capacity};
 ghost use Rattle.std.specs.Option.{option_to_list};
-ghost use Rattle.health_standing.specs.Founding.{AllBare, AreSeatedAt, AreSeatedFirst, ComesFirst};
-ghost use Rattle.health_standing.specs.Founding.{HasBareTarget, HasRoomForTwo, IsBare, refs_of};
+ghost use Rattle.health_standing.specs.Founding.{ArePlainSets, AreSeatedAt, AreSeatedFirst, ComesFirst};
+ghost use Rattle.health_standing.specs.Founding.{HasPlainTarget, HasRoomForTwo, IsPlainSet, refs_of};
 ghost use Rattle.health_standing.specs.Founding.{with_two_counts, with_two_more};
 ghost use Rattle.health_standing.specs.Leading.{HasItsCheck};
 ghost use Rattle.health_standing.specs.declared.founding.FirstAlias.{FirstAlias};
@@ -39,7 +39,7 @@ pub struct FirstAlias {
 /// Whether nothing decides the set that a reference names, and the seat in its slot tells nothing.
 fn is_bare(zones: &Zones, seats: &[Seat], set: SetRef) -> bool
     ensures { (named : RecordSet) → RefersTo zones.now.zones set named
-        → IsTrue result ↔ IsBare seats.now set.slot named }
+        → IsTrue result ↔ IsPlainSet seats.now set.slot named }
 {
     zones.well_formed();
     let Some(watch) = zones.watch(set) else {
@@ -58,7 +58,7 @@ fn is_bare(zones: &Zones, seats: &[Seat], set: SetRef) -> bool
 /// The same of all sets of a group.
 fn are_bare(zones: &Zones, seats: &[Seat], group: Group) -> bool
     requires { IsGroupNow zones.now.zones group }
-    ensures { IsTrue result ↔ AllBare seats.now (members_of zones.now.zones group) }
+    ensures { IsTrue result ↔ ArePlainSets seats.now (members_of zones.now.zones group) }
 {
     for i in 0..group.length {
         if !is_bare(zones, seats, zones.member(group, i)) {
@@ -73,9 +73,9 @@ fn bare_target(zones: &Zones, seats: &[Seat], set: SetRef) -> Option<Group>
     ensures found { (its : Group) (named : RecordSet) → result ≡ Some its → RefersTo zones.now.zones set named
         → IsGroupNow zones.now.zones its × ((its.zone ≡ set.zone)
         × ((its.length ≡ length (members_of zones.now.zones its))
-        × HasBareTarget zones.now.zones seats.now set.zone named (members_of zones.now.zones its))) }
+        × HasPlainTarget zones.now.zones seats.now set.zone named (members_of zones.now.zones its))) }
     ensures all { (named : RecordSet) (members : List Slotted) → RefersTo zones.now.zones set named
-        → HasBareTarget zones.now.zones seats.now set.zone named members
+        → HasPlainTarget zones.now.zones seats.now set.zone named members
         → (its : Group) × ((result ≡ Some its) × (members_of zones.now.zones its ≡ members)) }
 {
     zones.well_formed();
