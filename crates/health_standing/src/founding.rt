@@ -20,12 +20,11 @@ ghost use Rattle.record_set.specs.declared.sets.RecordSet.{RecordSet};
 ghost use Rattle.zone_model.specs.Slotted.{Slotted};
 
 use crate::alias_coming::{AliasFeeders, push_alias, put_own};
+use crate::coming::alias_alone;
 use crate::finding::find_seat;
 use crate::regrouping::put_seat;
-use crate::valve_leaving::has_no_valve;
 use health_planning::{
-    Group, MOST_CHECKS, Scratch, Seat, SetRef, Zones, find_group, grow_seats, is_watched,
-    number_at, place_near,
+    Group, Scratch, Seat, SetRef, Zones, find_group, grow_seats, is_watched, number_at, place_near,
 };
 use health_valves::Valves;
 
@@ -92,22 +91,25 @@ fn bare_target(zones: &Zones, seats: &[Seat], set: SetRef) -> Option<Group>
     Some(group)
 }
 
-/// The valve of a check that is named, if one is. None where no check has the number.
-fn check_from(ids: &[u32], numbers: &[u32], check: Option<u32>) -> Option<Option<u32>>
+/// A target group, and the valve of a check that is named, if one is. None where no check has the number.
+fn first_from(ids: &[u32], numbers: &[u32], check: Option<u32>, group: Group) -> Option<FirstAlias>
     requires apart { StandApart ids.now }
     requires as_many { length numbers.now ≡ length ids.now }
-    ensures found { (its : Option ℕ) → result ≡ Some its
-        → HasItsCheck ids.now check
-        × (option_to_list its ≡ map (valve_with ids.now numbers.now) (option_to_list check)) }
+    ensures found { (its : FirstAlias) → result ≡ Some its → HasItsCheck ids.now check
+        × (option_to_list its.check ≡ map (valve_with ids.now numbers.now) (option_to_list check)) }
+    ensures group { (its : FirstAlias) → result ≡ Some its → its.group ≡ group }
     ensures none { result ≡ None → HasItsCheck ids.now check → ⊥ }
 {
     let Some(id) = check else {
-        return Some(None);
+        return Some(FirstAlias { group, check: None });
     };
     let Some(place) = place_near(ids, id) else {
         return None;
     };
-    Some(Some(number_at(numbers, place)))
+    Some(FirstAlias {
+        group,
+        check: Some(number_at(numbers, place)),
+    })
 }
 
 /// Whether this is a valve that there is, if it is one.
@@ -145,35 +147,19 @@ pub fn first_come(
         × (option_to_list its.check ≡ feeders))) }
 {
     zones.well_formed();
-    let Some(watch) = zones.watch(set) else {
+    let Some(watch) = alias_alone(zones, seats, valves, set, scratch) else {
         return None;
     };
-    if !watch.evaluates {
-        return None;
-    }
-    let seat = find_seat(seats, set.slot);
-    if seat.set != 0 {
-        return None;
-    }
-    if seat.group != 0 {
-        return None;
-    }
-    if valves.len() < MOST_CHECKS {
-        return None;
-    }
-    if !has_no_valve(zones, seats, set, scratch) {
-        return None;
-    }
     let Some(group) = bare_target(zones, seats, set) else {
         return None;
     };
-    let Some(check) = check_from(ids, numbers, watch.check) else {
+    let Some(first) = first_from(ids, numbers, watch.check, group) else {
         return None;
     };
-    if !is_there(valves, check) {
+    if !is_there(valves, first.check) {
         return None;
     }
-    Some(FirstAlias { group, check })
+    Some(first)
 }
 
 /// Two valves more, behind all: one at which so many are counted from outside, at most 2^31, of which there has to
