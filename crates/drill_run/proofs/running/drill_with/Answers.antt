@@ -9,15 +9,15 @@ pub returns-in-Ok-clause-leaves : goal.returns-in-Ok-clause-leaves
 returns-in-Ok-clause-leaves g c = λ x y x_is y_is opens.
     let kept = c.in-Ok.store.kept in
     let holds = c.in-Ok.ensures.holds x y x_is y_is in
-    lines_left g.D.Disk.images c.drill_in.new.a c.drill_in.new.b c.args.events x y
-    (g.K.Sink.held c.args.out.now) (g.K.Sink.held c.drill_in.new.out) (opened kept)
+    lines_left g.D.Disk.images c.drill_in-drilled.new.a c.drill_in-drilled.new.b c.args.events x y
+    (g.K.Sink.held c.args.out.now) (g.K.Sink.held c.drill_in-drilled.new.out) (opened kept)
     (is_start g.D.Disk.reading g.D.Disk.images c.standing_place.ensures
     c.pair_opens_to_one_config.ensures kept c.open.new.a c.open.new.b x y c.in-Ok.ensures.stands
     holds ((c.in-Ok.ensures.a_unwritten x x_is).reads ∙ x_is)
     ((c.in-Ok.ensures.b_unwritten y y_is).reads ∙ y_is) c.in-Ok.ensures.idle
     (opens x y (g.met.D.Disk.is_image c.args.a.now x x_is) (g.met.D.Disk.is_image c.args.b.now y y_is)))
-    c.drill_in.result
-    (c.drill_in.ensures.leaves (opened kept) c.in-Ok.ensures.opened holds)
+    c.drill_in-drilled.result
+    (c.drill_in-drilled.ensures.leaves (opened kept) c.in-Ok.ensures.opened holds)
 
 pub returns-in-Err-clause-leaves : goal.returns-in-Err-clause-leaves
 returns-in-Err-clause-leaves g c = λ x y x_is y_is opens.
@@ -38,8 +38,8 @@ returns-in-Err-clause-unwritten g c =
 
 pub returns-in-Ok-clause-cause : goal.returns-in-Ok-clause-cause
 returns-in-Ok-clause-cause g c =
-    cause_later c.drill_in.result (g.D.Disk.faults c.args.a.now) (g.D.Disk.faults c.open.new.a)
-    (g.D.Disk.faults c.drill_in.new.a) (g.D.Disk.faults c.args.b.now)
-    (g.D.Disk.faults c.open.new.b) (g.D.Disk.faults c.drill_in.new.b)
-    (g.K.Sink.faults c.args.out.now) (g.K.Sink.faults c.drill_in.new.out)
-    c.open.ensures.a_counts c.open.ensures.b_counts c.drill_in.ensures.cause
+    cause_later c.drill_in-drilled.result (g.D.Disk.faults c.args.a.now) (g.D.Disk.faults c.open.new.a)
+    (g.D.Disk.faults c.drill_in-drilled.new.a) (g.D.Disk.faults c.args.b.now)
+    (g.D.Disk.faults c.open.new.b) (g.D.Disk.faults c.drill_in-drilled.new.b)
+    (g.K.Sink.faults c.args.out.now) (g.K.Sink.faults c.drill_in-drilled.new.out)
+    c.open.ensures.a_counts c.open.ensures.b_counts c.drill_in-drilled.ensures.cause
