@@ -88,8 +88,8 @@ impl HealthIndex {
     }
 
     /// Takes a command by which one set that nothing decides came into a group with a valve, or went from one,
-    /// or one with a valve of its own went, as an evaluated alias has, or an evaluated alias came. The answer is whether it is one, and there
-    /// is room to note the set; else the index stays as it is. It takes no memory.
+    /// or one with a valve of its own went, as an evaluated alias has, or an evaluated alias came. The answer is
+    /// whether it is one, and there is room to note the set; else the index stays as it is. It takes no memory.
     pub(crate) fn regroup(&mut self, zones: &Zones, checks: &CheckTable, delta: &Delta) -> bool
         requires room { HasRoom self.old zones.now.slots }
         requires sound { IsSound (watched_of zones.now.zones checks.now.checks) }

@@ -2,7 +2,8 @@
 //!
 //! A set that nothing decides has no valve: it is healthy, and nothing but its seat is written for it. A set
 //! that a check alone decides is as healthy as the check, whose valve its seat tells, but in a target group
-//! whose health counts. Room for a valve is kept all the same, so that no command wants memory.
+//! whose health counts, or did since all was laid out. Room for a valve is kept all the same, so that no command
+//! wants memory.
 //!
 //! The valves are planned (`health_planning`), and then laid out. After a command this is done anew, in room that was
 //! made before (`reserving`), but not where little changes (`index` asks, `in_place` does it). So it is where no valve

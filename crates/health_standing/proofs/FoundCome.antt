@@ -18,7 +18,7 @@ use Rattle.health_standing.proofs.Slots.{slot_in}
 use Rattle.health_standing.proofs.Staying.{CameBy, WentBy, groups_led, node_now, target_now}
 use Rattle.health_standing.proofs.TwoMore.{at_first, at_last, behind, count_first, count_last, count_there, there}
 use Rattle.health_standing.specs.Index.{Index, IsOfOneGroup, Space, StandsFor, TellApart}
-use Rattle.health_standing.specs.Founding.{AreSeatedFirst, ComesFirst, HasBareTarget, with_two_counts, with_two_more}
+use Rattle.health_standing.specs.Founding.{AreSeatedFirst, ComesFirst, HasPlainTarget, with_two_counts, with_two_more}
 use Rattle.health_standing.specs.Leaving.{Moves}
 use Rattle.health_model.proofs.Members.{nothing_in}
 use Rattle.health_model.specs.Laws.{PathsEnd}
@@ -138,7 +138,7 @@ module _ (before after : List Zone) (checks : Checks) (reports : List Report) (i
 
   -- ---- the target group
 
-  abbrev t : HasBareTarget after seats ref.zone comes.set members
+  abbrev t : HasPlainTarget after seats ref.zone comes.set members
   t = comes.its_target
 
   -- the alias is none of it

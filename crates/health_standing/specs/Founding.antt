@@ -24,22 +24,22 @@ use Rattle.zone_model.specs.Slotted.{IsHere, Slotted}
 -- ---- which commands
 
 -- Nothing decides the set, and the seat in its slot tells nothing.
-abbrev pub IsBare : List Seat → (slot : ℕ) → RecordSet → Type 0
-IsBare seats slot set =
+abbrev pub IsPlainSet : List Seat → (slot : ℕ) → RecordSet → Type 0
+IsPlainSet seats slot set =
     (is_watched set ≡ false) × ((set_seat seats slot ≡ 0) × (group_seat seats slot ≡ 0))
 
-abbrev pub AllBare : List Seat → List Slotted → Type 0
-AllBare seats members = (p : Slotted) → IsHere members p → IsBare seats p.slot p.set
+abbrev pub ArePlainSets : List Seat → List Slotted → Type 0
+ArePlainSets seats members = (p : Slotted) → IsHere members p → IsPlainSet seats p.slot p.set
 
 -- The target group of an alias has these sets, one at least, and all of them are so.
-pub record HasBareTarget (zones : List Zone) (seats : List Seat) (zone : ℕ) (set : RecordSet)
+pub record HasPlainTarget (zones : List Zone) (seats : List Seat) (zone : ℕ) (set : RecordSet)
     (members : List Slotted) : Type 0 where
   pub name : List (List ℕ)
   pub rtype : RType
   pub target : target_of set ≡ Some (name, rtype)
   pub are : AreMembers zones zone name rtype members
   pub some : 1 ≤ length members
-  pub bare : AllBare seats members
+  pub bare : ArePlainSets seats members
 
 -- the valve of the check that a set names, if it names one
 abbrev pub its_valves : (ids numbers : List ℕ) → RecordSet → List ℕ
@@ -57,7 +57,7 @@ pub record ComesFirst (zones : List Zone) (ids numbers : List ℕ) (seats : List
   pub none : group_seat seats ref.slot ≡ 0
   pub alone : HasNoValve zones seats ref.zone set.name set.rtype
   pub its_check : HasItsCheck ids set.check
-  pub its_target : HasBareTarget zones seats ref.zone set members
+  pub its_target : HasPlainTarget zones seats ref.zone set members
   pub are : feeders ≡ its_valves ids numbers set
   pub within : All (λ x. x < size_of valves) feeders
   pub many : 200 ≤ size_of valves

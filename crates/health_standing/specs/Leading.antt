@@ -44,6 +44,17 @@ HasItsCheck ids (Some id) = (place : ℕ) × (slice_get ids place ≡ Some id)
 abbrev pub feeders_with : (ids numbers : List ℕ) → Option ℕ → (group : ℕ) → List ℕ
 feeders_with ids numbers check group = map (valve_with ids numbers) (option_to_list check) ++ group ∷ []
 
+-- An evaluated alias came, of a group without a valve, into a slot whose seat tells nothing. The valves of 200
+-- checks are there.
+pub record ComesAlone (zones : List Zone) (seats : List Seat) (valves : Valves) (ref : SetRef) : Type 0 where
+  pub set : RecordSet
+  pub names : RefersTo zones ref set
+  pub on : evaluates set.body ≡ true
+  pub bare : set_seat seats ref.slot ≡ 0
+  pub none : group_seat seats ref.slot ≡ 0
+  pub alone : HasNoValve zones seats ref.zone set.name set.rtype
+  pub many : 200 ≤ size_of valves
+
 -- An evaluated alias came, of a group without a valve, into a slot whose seat tells nothing. Its target group
 -- has a valve, and so has the check that it names: these are to feed its own. The valves of 200 checks are
 -- there.

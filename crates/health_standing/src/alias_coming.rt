@@ -14,10 +14,10 @@ ghost use Rattle.health_valves.specs.Valves.{IsReady, Net, ValvesStandFor, fed_c
 ghost use Rattle.health_valves.specs.Valves.{with_one_more, with_own};
 ghost use Rattle.record_set.specs.declared.sets.RecordSet.{RecordSet};
 
+use crate::coming::alias_alone;
 use crate::finding::find_seat;
-use crate::valve_leaving::has_no_valve;
 use health_planning::{
-    MOST_CHECKS, Scratch, Seat, SetRef, Zones, find_group, grow_seats, number_at, place_near,
+    Scratch, Seat, SetRef, Zones, find_group, grow_seats, number_at, place_near,
 };
 use health_valves::Valves;
 
@@ -102,25 +102,9 @@ pub fn alias_come(
         → (its : AliasFeeders) × ((result ≡ Some its) × (listed_in its ≡ feeders)) }
 {
     zones.well_formed();
-    let Some(watch) = zones.watch(set) else {
+    let Some(watch) = alias_alone(zones, seats, valves, set, scratch) else {
         return None;
     };
-    if !watch.evaluates {
-        return None;
-    }
-    let seat = find_seat(seats, set.slot);
-    if seat.set != 0 {
-        return None;
-    }
-    if seat.group != 0 {
-        return None;
-    }
-    if valves.len() < MOST_CHECKS {
-        return None;
-    }
-    if !has_no_valve(zones, seats, set, scratch) {
-        return None;
-    }
     let told = target_seat(zones, seats, set);
     if told == 0 {
         return None;

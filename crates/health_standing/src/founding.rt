@@ -4,8 +4,8 @@
 ghost use Rattle.std.specs.Prelude.{◌≡◌, ◌≤◌, ◌<◌, ◌+◌, ◌-◌, ◌++◌, ◌^◌, ◌↔◌, ℕ, All, IsTrue, List, None, Option, Some, length, map};
 ghost use Rattle.std.specs.Prelude.{vec_capacity};
 ghost use Rattle.std.specs.Option.{option_to_list};
-ghost use Rattle.health_standing.specs.Founding.{AllBare, AreSeatedAt, AreSeatedFirst, ComesFirst};
-ghost use Rattle.health_standing.specs.Founding.{HasBareTarget, HasRoomForTwo, IsBare, refs_of};
+ghost use Rattle.health_standing.specs.Founding.{ArePlainSets, AreSeatedAt, AreSeatedFirst, ComesFirst};
+ghost use Rattle.health_standing.specs.Founding.{HasPlainTarget, HasRoomForTwo, IsPlainSet, refs_of};
 ghost use Rattle.health_standing.specs.Founding.{with_two_counts, with_two_more};
 ghost use Rattle.health_standing.specs.Leading.{HasItsCheck};
 ghost use Rattle.health_standing.specs.declared.founding.FirstAlias.{FirstAlias};
@@ -20,12 +20,11 @@ ghost use Rattle.record_set.specs.declared.sets.RecordSet.{RecordSet};
 ghost use Rattle.zone_model.specs.Slotted.{Slotted};
 
 use crate::alias_coming::{AliasFeeders, push_alias, put_own};
+use crate::coming::alias_alone;
 use crate::finding::find_seat;
 use crate::regrouping::put_seat;
-use crate::valve_leaving::has_no_valve;
 use health_planning::{
-    Group, MOST_CHECKS, Scratch, Seat, SetRef, Zones, find_group, grow_seats, is_watched,
-    number_at, place_near,
+    Group, Scratch, Seat, SetRef, Zones, find_group, grow_seats, is_watched, number_at, place_near,
 };
 use health_valves::Valves;
 
@@ -39,7 +38,7 @@ pub struct FirstAlias {
 /// Whether nothing decides the set that a reference names, and the seat in its slot tells nothing.
 fn is_bare(zones: &Zones, seats: &[Seat], set: SetRef) -> bool
     ensures { (named : RecordSet) → RefersTo zones.now.zones set named
-        → IsTrue result ↔ IsBare seats.now set.slot named }
+        → IsTrue result ↔ IsPlainSet seats.now set.slot named }
 {
     zones.well_formed();
     let Some(watch) = zones.watch(set) else {
@@ -58,7 +57,7 @@ fn is_bare(zones: &Zones, seats: &[Seat], set: SetRef) -> bool
 /// The same of all sets of a group.
 fn are_bare(zones: &Zones, seats: &[Seat], group: Group) -> bool
     requires { IsGroupNow zones.now.zones group }
-    ensures { IsTrue result ↔ AllBare seats.now (members_of zones.now.zones group) }
+    ensures { IsTrue result ↔ ArePlainSets seats.now (members_of zones.now.zones group) }
 {
     for i in 0..group.length {
         if !is_bare(zones, seats, zones.member(group, i)) {
@@ -73,9 +72,9 @@ fn bare_target(zones: &Zones, seats: &[Seat], set: SetRef) -> Option<Group>
     ensures found { (its : Group) (named : RecordSet) → result ≡ Some its → RefersTo zones.now.zones set named
         → IsGroupNow zones.now.zones its × ((its.zone ≡ set.zone)
         × ((its.length ≡ length (members_of zones.now.zones its))
-        × HasBareTarget zones.now.zones seats.now set.zone named (members_of zones.now.zones its))) }
+        × HasPlainTarget zones.now.zones seats.now set.zone named (members_of zones.now.zones its))) }
     ensures all { (named : RecordSet) (members : List Slotted) → RefersTo zones.now.zones set named
-        → HasBareTarget zones.now.zones seats.now set.zone named members
+        → HasPlainTarget zones.now.zones seats.now set.zone named members
         → (its : Group) × ((result ≡ Some its) × (members_of zones.now.zones its ≡ members)) }
 {
     zones.well_formed();
@@ -92,22 +91,25 @@ fn bare_target(zones: &Zones, seats: &[Seat], set: SetRef) -> Option<Group>
     Some(group)
 }
 
-/// The valve of a check that is named, if one is. None where no check has the number.
-fn check_from(ids: &[u32], numbers: &[u32], check: Option<u32>) -> Option<Option<u32>>
+/// A target group, and the valve of a check that is named, if one is. None where no check has the number.
+fn first_from(ids: &[u32], numbers: &[u32], check: Option<u32>, group: Group) -> Option<FirstAlias>
     requires apart { StandApart ids.now }
     requires as_many { length numbers.now ≡ length ids.now }
-    ensures found { (its : Option ℕ) → result ≡ Some its
-        → HasItsCheck ids.now check
-        × (option_to_list its ≡ map (valve_with ids.now numbers.now) (option_to_list check)) }
+    ensures found { (its : FirstAlias) → result ≡ Some its → HasItsCheck ids.now check
+        × (option_to_list its.check ≡ map (valve_with ids.now numbers.now) (option_to_list check)) }
+    ensures group { (its : FirstAlias) → result ≡ Some its → its.group ≡ group }
     ensures none { result ≡ None → HasItsCheck ids.now check → ⊥ }
 {
     let Some(id) = check else {
-        return Some(None);
+        return Some(FirstAlias { group, check: None });
     };
     let Some(place) = place_near(ids, id) else {
         return None;
     };
-    Some(Some(number_at(numbers, place)))
+    Some(FirstAlias {
+        group,
+        check: Some(number_at(numbers, place)),
+    })
 }
 
 /// Whether this is a valve that there is, if it is one.
@@ -145,35 +147,19 @@ pub fn first_come(
         × (option_to_list its.check ≡ feeders))) }
 {
     zones.well_formed();
-    let Some(watch) = zones.watch(set) else {
+    let Some(watch) = alias_alone(zones, seats, valves, set, scratch) else {
         return None;
     };
-    if !watch.evaluates {
-        return None;
-    }
-    let seat = find_seat(seats, set.slot);
-    if seat.set != 0 {
-        return None;
-    }
-    if seat.group != 0 {
-        return None;
-    }
-    if valves.len() < MOST_CHECKS {
-        return None;
-    }
-    if !has_no_valve(zones, seats, set, scratch) {
-        return None;
-    }
     let Some(group) = bare_target(zones, seats, set) else {
         return None;
     };
-    let Some(check) = check_from(ids, numbers, watch.check) else {
+    let Some(first) = first_from(ids, numbers, watch.check, group) else {
         return None;
     };
-    if !is_there(valves, check) {
+    if !is_there(valves, first.check) {
         return None;
     }
-    Some(FirstAlias { group, check })
+    Some(first)
 }
 
 /// Two valves more, behind all: one at which so many are counted from outside, at most 2^31, of which there has to

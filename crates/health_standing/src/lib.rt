@@ -11,6 +11,7 @@
 #![tactic(auto)]
 
 mod alias_coming;
+mod coming;
 mod fed_alike;
 mod finding;
 mod founding;

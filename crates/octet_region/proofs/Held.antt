@@ -1,5 +1,5 @@
 -- The map of what is held, handle by handle.
-use Rattle.std.proofs.Common.{◌≡◌, ℕ, zero, suc, ◌+◌, ◌<◌, ◌≢◌, List, [], ◌∷◌, ap, sym, refl, subst, ◌∙◌, arith, inl, inr, None, Some, true, false, cond}
+use Rattle.std.proofs.Common.{◌≡◌, ℕ, zero, suc, ◌+◌, ◌%◌, ◌<◌, ◌≢◌, List, [], ◌∷◌, length, ap, sym, refl, subst, ◌∙◌, arith, inl, inr, None, Some, true, false, cond}
 use Rattle.std.specs.Prelude.{Option}
 use Rattle.std.specs.Cmp.{unsigned_tied}
 use Rattle.std.specs.FinMap as map
@@ -7,7 +7,7 @@ use Rattle.std.specs.FinMap.{nat_cmp-IsAntisymmetric}
 use Rattle.std.specs.Ordering.{nat_cmp, eq_by_cmp}
 use Rattle.std.proofs.lemmas.Cmp.{nat_cmp_total}
 use Rattle.octet_region.specs.declared.cells.Cell.{Cell}
-use Rattle.octet_region.specs.Cells.{octets_at, next_at, mark_at}
+use Rattle.octet_region.specs.Cells.{octets_at, number_at, begin_at}
 use Rattle.octet_region.specs.Shape.{octets_by, octets_of, with_octets, held_from, held_in}
 use Rattle.octet_region.specs.Stored.{Held}
 use Rattle.octet_region.proofs.Picks.{at_or_not}
@@ -51,22 +51,22 @@ held_below : (all : List Cell) (c : ℕ) (rest : List Cell) (q : ℕ) → q < c
     → map.get (held_from all c rest) q ≡ None
 held_below all c [] q lt = map.get-empty nat_cmp q
 held_below all c (cell ∷ rest) q lt =
-    with_there c (octets_by (octets_at all) (next_at all) c cell.mark) (held_from all (suc c) rest) q
+    with_there c (octets_by (octets_at all) (number_at all) (length all) c (cell.link % 2)) (held_from all (suc c) rest) q
     (λ e. omega arith)
     ∙ held_below all (suc c) rest q (omega arith)
 
 held_at : (all : List Cell) (c : ℕ) (rest : List Cell) (q k : ℕ) → q ≡ c + k
-    → map.get (held_from all c rest) q ≡ octets_by (octets_at all) (next_at all) q (mark_at rest k)
+    → map.get (held_from all c rest) q ≡ octets_by (octets_at all) (number_at all) (length all) q (begin_at rest k)
 held_at all c [] q k e = map.get-empty nat_cmp q
 held_at all c (cell ∷ rest) q zero e =
     let same : q ≡ c = omega arith in
     subst (λ x. map.get
-    (with_octets c (octets_by (octets_at all) (next_at all) c cell.mark) (held_from all (suc c) rest)) x
-    ≡ octets_by (octets_at all) (next_at all) x cell.mark) (sym same)
-    (with_here c (octets_by (octets_at all) (next_at all) c cell.mark) (held_from all (suc c) rest)
+    (with_octets c (octets_by (octets_at all) (number_at all) (length all) c (cell.link % 2)) (held_from all (suc c) rest)) x
+    ≡ octets_by (octets_at all) (number_at all) (length all) x (cell.link % 2)) (sym same)
+    (with_here c (octets_by (octets_at all) (number_at all) (length all) c (cell.link % 2)) (held_from all (suc c) rest)
     (held_below all (suc c) rest c (omega arith)))
 held_at all c (cell ∷ rest) q (suc k) e =
-    with_there c (octets_by (octets_at all) (next_at all) c cell.mark) (held_from all (suc c) rest) q
+    with_there c (octets_by (octets_at all) (number_at all) (length all) c (cell.link % 2)) (held_from all (suc c) rest) q
     (λ x. omega arith)
     ∙ held_at all (suc c) rest q k (omega arith)
 

@@ -1,10 +1,10 @@
 -- One cell changed: what each of the others keeps, and how far a chain goes.
-use Rattle.std.proofs.Common.{◌≡◌, ℕ, suc, ◌-◌, ◌<◌, ◌≤◌, ◌≢◌, List, ◌++◌, take, drop, length, ap, sym, refl, subst, ◌∙◌, arith, set, get_or-set_other, get_or-set_same, length-set, length-drop, inl, inr}
-use Rattle.std.specs.Prelude.{◌⊎◌, min}
-use Rattle.std.proofs.lemmas.List.{take_all, append-nil}
+use Rattle.std.proofs.Common.{◌≡◌, ℕ, suc, ◌-◌, ◌/◌, ◌%◌, ◌<◌, ◌≤◌, ◌≢◌, List, ◌++◌, take, drop, length, ap, sym, refl, subst, ◌∙◌, arith, set, get_or-set_other, get_or-set_same, length-set, length-drop, inl, inr}
+use Rattle.std.specs.Prelude.{◌⊎◌}
+use Rattle.std.proofs.lemmas.List.{take_all}
 use Rattle.octet_region.specs.declared.cells.Cell.{Cell}
-use Rattle.octet_region.specs.Cells.{cells_for, blank, cell_at, octets_at, next_at, mark_at, write_at}
-use Rattle.octet_region.specs.Chains.{jump, IsInside, gather, written}
+use Rattle.octet_region.specs.Cells.{cells_for, blank, cell_at, octets_at, number_at, begin_at, next_at, write_at}
+use Rattle.octet_region.specs.Chains.{jump, IsInside, written}
 
 pub more_cells : (n : ℕ) → 32 < n → cells_for n ≡ suc (cells_for (n - 32))
 more_cells n h = omega arith
@@ -32,13 +32,19 @@ field_set f cells c cell lt same d =
 pub next_write : (cells : List Cell) (c : ℕ) (piece : List ℕ) → c < length cells
     → next_at (write_at cells c piece) ≡ next_at cells
 next_write cells c piece lt =
-    λ i d. field_set (λ x. x.next) cells c
+    λ i d. field_set (λ x. x.link / 2 - 33) cells c
     (record (cell_at cells c) { octets = piece ++ drop (length piece) (octets_at cells c) }) lt refl d i
 
-pub mark_write : (cells : List Cell) (c : ℕ) (piece : List ℕ) → c < length cells
-    → mark_at (write_at cells c piece) ≡ mark_at cells
-mark_write cells c piece lt =
-    λ i d. field_set (λ x. x.mark) cells c
+pub number_write : (cells : List Cell) (c : ℕ) (piece : List ℕ) → c < length cells
+    → number_at (write_at cells c piece) ≡ number_at cells
+number_write cells c piece lt =
+    λ i d. field_set (λ x. x.link / 2) cells c
+    (record (cell_at cells c) { octets = piece ++ drop (length piece) (octets_at cells c) }) lt refl d i
+
+pub begin_write : (cells : List Cell) (c : ℕ) (piece : List ℕ) → c < length cells
+    → begin_at (write_at cells c piece) ≡ begin_at cells
+begin_write cells c piece lt =
+    λ i d. field_set (λ x. x.link % 2) cells c
     (record (cell_at cells c) { octets = piece ++ drop (length piece) (octets_at cells c) }) lt refl d i
 
 pub inside_on : (cells : List Cell) (c : ℕ) (rest : List ℕ) → 32 < length rest
@@ -75,14 +81,14 @@ written_on cells c rest more =
     ap (λ n. written cells n c rest) e
 
 pub jump_on : (cells : List Cell) (c : ℕ) (rest : List ℕ) → 32 < length rest → c < length cells
-    → jump (next_at cells) (cells_for (length rest)) c
-    ≡ jump (next_at (write_at cells c (take 32 rest))) (cells_for (length (drop 32 rest)))
+    → jump (next_at cells) (cells_for (length rest) - 1) c
+    ≡ jump (next_at (write_at cells c (take 32 rest))) (cells_for (length (drop 32 rest)) - 1)
     (next_at cells c)
 jump_on cells c rest more lt =
-    let e : cells_for (length rest)
-    ≡ suc (cells_for (length (drop 32 rest))) = omega (arith, length-drop 32 rest) in
+    let e : cells_for (length rest) - 1
+    ≡ suc (cells_for (length (drop 32 rest)) - 1) = omega (arith, length-drop 32 rest) in
     ap (λ n. jump (next_at cells) n c) e
-    ∙ ap (λ (f : ℕ → ℕ). jump f (cells_for (length (drop 32 rest))) (next_at cells c))
+    ∙ ap (λ (f : ℕ → ℕ). jump f (cells_for (length (drop 32 rest)) - 1) (next_at cells c))
     (sym (next_write cells c (take 32 rest) lt))
 
 pub written_last : (cells : List Cell) (c : ℕ) (rest : List ℕ) → length rest ≤ 32
@@ -92,8 +98,9 @@ written_last cells c rest few =
     ap (λ n. written cells n c rest) (one_cell (length rest) few) ∙ ap (λ p. write_at cells c p) e
 
 pub jump_last : (cells : List Cell) (c : ℕ) (rest : List ℕ) → length rest ≤ 32
-    → jump (next_at cells) (cells_for (length rest)) c ≡ next_at cells c
-jump_last cells c rest few = ap (λ n. jump (next_at cells) n c) (one_cell (length rest) few)
+    → jump (next_at cells) (cells_for (length rest) - 1) c ≡ c
+jump_last cells c rest few =
+    let e : cells_for (length rest) - 1 ≡ 0 = omega (arith, few) in ap (λ n. jump (next_at cells) n c) e
 
 pub inside_last : (cells : List Cell) (c n : ℕ) → IsInside (next_at cells) (length cells) (cells_for n) c
     → c < length cells
@@ -108,7 +115,8 @@ pub write_step : (cells : List Cell) (c : ℕ) (rest : List ℕ) (new : List Cel
     → new ≡ write_at cells c (take 32 rest) → on ≡ next_at cells c → left ≡ drop 32 rest
     → IsInside (next_at new) (length new) (cells_for (length left)) on
     × (written cells (cells_for (length rest)) c rest ≡ written new (cells_for (length left)) on left)
-    × (jump (next_at cells) (cells_for (length rest)) c ≡ jump (next_at new) (cells_for (length left)) on)
+    × (jump (next_at cells) (cells_for (length rest) - 1) c
+    ≡ jump (next_at new) (cells_for (length left) - 1) on)
 write_step cells c rest new on left more h e f g =
     let w = inside_on cells c rest more h in (
       rw (e, f, g) (inside_write cells c rest more h),
@@ -116,35 +124,3 @@ write_step cells c rest new on left more h e f g =
       rw
           (e, f, g) (jump_on cells c rest more w.0),
     )
-
--- one turn of the loop that looks for the last cell
-pub last_step : (cells : List Cell) (c left : ℕ) → 32 < left
-    → IsInside (next_at cells) (length cells) (cells_for left) c
-    → (c < length cells) × IsInside (next_at cells) (length cells) (cells_for (left - 32)) (next_at cells c)
-    × (jump (next_at cells) (cells_for left - 1) c
-    ≡ jump (next_at cells) (cells_for (left - 32) - 1) (next_at cells c))
-last_step cells c left more h =
-    let e : cells_for left ≡ suc (cells_for (left - 32)) = more_cells left more in
-    let w : (c < length cells)
-    × IsInside (next_at cells) (length cells) (cells_for (left - 32)) (next_at cells c) =
-    subst (λ n. IsInside (next_at cells) (length cells) n c) e h in
-    let f : cells_for left - 1 ≡ suc (cells_for (left - 32) - 1) = omega arith in
-    (w.0, w.1, ap (λ n. jump (next_at cells) n c) f)
-
--- one turn of the loop that copies
-pub gather_on : (octets : ℕ → List ℕ) (next : ℕ → ℕ) (left c : ℕ) → 32 < left → length (octets c) ≡ 32
-    → gather octets next (cells_for left) left c
-    ≡ octets c ++ gather octets next (cells_for (left - 32)) (left - 32) (next c)
-gather_on octets next left c more whole =
-    let e : min left 32 ≡ 32 = omega arith in
-    ap (λ n. gather octets next n left c) (more_cells left more)
-    ∙ ap (λ k. take k (octets c) ++ gather octets next (cells_for (left - 32)) (left - 32) (next c)) e
-    ∙ ap (λ xs. xs ++ gather octets next (cells_for (left - 32)) (left - 32) (next c))
-    (take_all 32 (octets c) (omega arith))
-
-pub gather_last : (octets : ℕ → List ℕ) (next : ℕ → ℕ) (left c : ℕ) → left ≤ 32
-    → gather octets next (cells_for left) left c ≡ take left (octets c)
-gather_last octets next left c few =
-    let e : min left 32 ≡ left = omega arith in
-    ap (λ n. gather octets next n left c) (one_cell left few) ∙ append-nil (take (min left 32) (octets c))
-    ∙ ap (λ k. take k (octets c)) e

@@ -1,29 +1,18 @@
--- What a handle gives, by the mark of its first cell.
-use Rattle.std.proofs.Common.{◌≡◌, ℕ, zero, suc, ◌+◌, ◌-◌, ◌<◌, List, length, ap, sym, refl, subst, ◌∙◌, arith, None, Some, Option, true, false}
+-- What a handle gives, by the link of its first cell.
+use Rattle.std.proofs.Common.{◌≡◌, ℕ, zero, suc, ◌+◌, ◌<◌, ◌≤◌, List, length, ap, sym, refl, subst, ◌∙◌, arith, None, Some, Option, true, false}
 use Rattle.std.specs.FinMap as map
 use Rattle.octet_region.specs.declared.cells.Cell.{Cell}
-use Rattle.octet_region.specs.Cells.{cells_for, octets_at, next_at, mark_at}
-use Rattle.octet_region.specs.Chains.{gather}
+use Rattle.octet_region.specs.Cells.{cells_for, octets_at, number_at, begin_at}
 use Rattle.octet_region.specs.Shape.{held_in, octets_by, octets_of, AreWhole, IsIntact}
 use Rattle.octet_region.specs.Stored.{Stored, Held, Frees}
 use Rattle.octet_region.proofs.Held.{get_held, remove_here, remove_there}
-use Rattle.octet_region.proofs.Sound.{live_inside, live_length, live_there}
+use Rattle.octet_region.proofs.Sound.{live_chain, live_there}
 
 pub not_known : (cells : List Cell) (stored : Stored) (c : ℕ) → held_in cells ≡ stored.held
-    → mark_at cells c ≡ 0 → map.get stored.held c ≡ None
+    → begin_at cells c ≡ 0 → map.get stored.held c ≡ None
 not_known cells stored c e m =
     ap (λ (h : Held). map.get h c) (sym e) ∙ get_held cells c
-    ∙ ap (λ m. octets_by (octets_at cells) (next_at cells) c m) m
-
-pub known : (cells : List Cell) (stored : Stored) (c n : ℕ) → held_in cells ≡ stored.held
-    → mark_at cells c ≡ suc n
-    → map.get stored.held c ≡ Some (gather (octets_at cells) (next_at cells) (cells_for n) n c)
-known cells stored c n e m =
-    ap (λ (h : Held). map.get h c) (sym e) ∙ get_held cells c
-    ∙ ap (λ m. octets_by (octets_at cells) (next_at cells) c m) m
-
-pub one_less : (mark n : ℕ) → mark ≡ n → 0 < n → mark ≡ suc (n - 1)
-one_less mark n e h = omega arith
+    ∙ ap (λ m. octets_by (octets_at cells) (number_at cells) (length cells) c m) m
 
 pub frees : (old new : Stored) (handle : ℕ) (octets : List ℕ) → map.get old.held handle ≡ Some octets
     → new ≡ record old { held = map.remove old.held handle; spare = old.spare + cells_for (length octets) }
@@ -41,19 +30,23 @@ seen items stored w first handle same is e =
     ∙ ap (λ (h : Held). map.get h handle) e
 
 pub whole_of : (items w : List Cell) (free spare : ℕ) → IsIntact items free spare → w ≡ items → AreWhole w
-whole_of items w free spare s e = subst (λ (x : List Cell). AreWhole x) (sym e)
-    (λ c n m. (live_inside items c free spare n s m, live_length items c free spare n s m))
+whole_of items w free spare s e = subst (λ (x : List Cell). AreWhole x) (sym e) (record {
+  chains = λ c m. (live_chain items c free spare s m).inside;
+  full = s.full;
+  few = s.few;
+})
 
 -- a handle that is live is one of a cell
 pub known_below : (items : List Cell) (stored : Stored) (free spare handle : ℕ) (octets : List ℕ)
     → IsIntact items free spare → held_in items ≡ stored.held → map.get stored.held handle ≡ Some octets
     → handle < length items
-known_below items stored free spare handle octets s e live = by_mark (mark_at items handle) refl
+known_below items stored free spare handle octets s e live =
+    by_begin (begin_at items handle) refl (omega arith)
   where
-    by_mark : (m : ℕ) → mark_at items handle ≡ m → handle < length items
-    by_mark zero m =
+    by_begin : (b : ℕ) → begin_at items handle ≡ b → b ≤ 1 → handle < length items
+    by_begin zero m few =
         let none : None ≡ Some octets = sym (not_known items stored handle e m) ∙ live in cc
-    by_mark (suc n) m = live_there items handle free spare n s m
+    by_begin (suc n) m few = live_there items handle free spare s (omega (arith, m, few))
 
 -- after a free that answered true, the handle gives nothing and all others what they gave
 pub freed_is : (old new : Stored) (handle : ℕ) (o : Option (List ℕ)) → Frees o old handle true new

@@ -1,7 +1,11 @@
--- Chains of cells, by their links.
-use Rattle.std.specs.Prelude.{◌≡◌, ℕ, zero, suc, ◌+◌, ◌-◌, ◌<◌, List, [], ◌++◌, drop, take, length, min}
+-- Chains of cells, by the numbers of their links.
+use Rattle.std.specs.Prelude.{◌≡◌, ℕ, zero, suc, ◌+◌, ◌-◌, ◌<◌, List, [], ◌++◌, drop, take, length}
 use Rattle.octet_region.specs.declared.cells.Cell.{Cell}
-use Rattle.octet_region.specs.Cells.{cells_for, next_at, octets_at, write_at}
+use Rattle.octet_region.specs.Cells.{number_at, next_at, octets_at, write_at}
+
+-- the cell behind each
+abbrev pub behind_by : (number : ℕ → ℕ) → ℕ → ℕ
+behind_by number c = number c - 33
 
 -- the cell behind so many
 abbrev pub jump : (next : ℕ → ℕ) → ℕ → ℕ → ℕ
@@ -13,18 +17,34 @@ abbrev pub IsInside : (next : ℕ → ℕ) (size : ℕ) → ℕ → ℕ → Type
 IsInside next size zero c = Unit {0}
 IsInside next size (suc n) c = (c < size) × IsInside next size n (next c)
 
--- the octets in the n cells from c on, of which there are so many
-abbrev pub gather : (octets : ℕ → List ℕ) (next : ℕ → ℕ) → (n size c : ℕ) → List ℕ
-gather octets next zero size c = []
-gather octets next (suc n) size c = take (min size 32) (octets c) ++ gather octets next n (size - 32) (next c)
+-- The chain from c on is there, and its last cell is among its first n.
+abbrev pub Ends : (number : ℕ → ℕ) (size n c : ℕ) → Type 0
+Ends number size zero c = ⊥
+Ends number size (suc n) c = (c < size) × (32 < number c → Ends number size n (number c - 33))
 
--- the cells of so many octets are there, from c on
-abbrev pub HasCells : List Cell → (size c : ℕ) → Type 0
-HasCells cells size c = IsInside (next_at cells) (length cells) (cells_for size) c
+-- the octets in the first n cells of the chain from c on, whose number is so much above 32: by this the last one is known
+abbrev pub gather : (octets : ℕ → List ℕ) (number : ℕ → ℕ) → (n c above : ℕ) → List ℕ
+gather octets number zero c above = []
+gather octets number (suc n) c zero = take (number c) (octets c)
+gather octets number (suc n) c (suc next) = octets c ++ gather octets number n next (number next - 32)
 
--- so many octets, from cell c on
-abbrev pub octets_in : List Cell → (size c : ℕ) → List ℕ
-octets_in cells size c = gather (octets_at cells) (next_at cells) (cells_for size) size c
+-- how many cells stand behind c among the first n of its chain
+abbrev pub steps : (number : ℕ → ℕ) → (n c above : ℕ) → ℕ
+steps number zero c above = 0
+steps number (suc n) c zero = 0
+steps number (suc n) c (suc next) = suc (steps number n next (number next - 32))
+
+-- the chain from cell c on is there
+abbrev pub HasCells : List Cell → (c : ℕ) → Type 0
+HasCells cells c = Ends (number_at cells) (length cells) (length cells) c
+
+-- the octets of the chain from cell c on
+abbrev pub octets_in : List Cell → (c : ℕ) → List ℕ
+octets_in cells c = gather (octets_at cells) (number_at cells) (length cells) c (number_at cells c - 32)
+
+-- how many cells of its chain stand behind c
+abbrev pub steps_in : List Cell → (c : ℕ) → ℕ
+steps_in cells c = steps (number_at cells) (length cells) c (number_at cells c - 32)
 
 -- cells with these octets in the n cells from c on
 abbrev pub written : List Cell → (n c : ℕ) → List ℕ → List Cell
@@ -32,8 +52,10 @@ written cells zero c octets = cells
 written cells (suc n) c octets =
     written (write_at cells c (take 32 octets)) n (next_at cells c) (drop 32 octets)
 
--- Each of the n cells from c on has this owner, and a rank of its own that falls by one, down to `least`.
-abbrev pub Walk : (owner rank next : ℕ → ℕ) (size o least : ℕ) → (n c : ℕ) → Type 0
-Walk owner rank next size o least zero c = Unit {0}
-Walk owner rank next size o least (suc n) c =
-    (c < size) × (owner c ≡ o) × (rank c ≡ least + n) × Walk owner rank next size o least n (next c)
+-- Each of the n cells from c on has this owner, and a rank of its own that falls by one, down to `least`; and each but
+-- the last leads to the next.
+abbrev pub Walk : (owner rank number : ℕ → ℕ) (size o least : ℕ) → (n c : ℕ) → Type 0
+Walk owner rank number size o least zero c = Unit {0}
+Walk owner rank number size o least (suc n) c =
+    (c < size) × (owner c ≡ o) × (rank c ≡ least + n) × (0 < n → 32 < number c)
+    × Walk owner rank number size o least n (number c - 33)

@@ -1,20 +1,19 @@
 -- How cells stand for what is held.
-use Rattle.std.specs.Prelude.{◌≡◌, ℕ, zero, suc, ◌+◌, ◌<◌, ◌^◌, List, [], ◌∷◌, length, Option, None, Some}
+use Rattle.std.specs.Prelude.{◌≡◌, ℕ, zero, suc, ◌+◌, ◌-◌, ◌*◌, ◌%◌, ◌<◌, ◌≤◌, ◌^◌, List, [], ◌∷◌, length, Option, None, Some}
 use Rattle.std.specs.FinMap as map
-use Rattle.std.specs.List.{sum_by}
 use Rattle.octet_region.specs.declared.cells.Cell.{Cell}
-use Rattle.octet_region.specs.Cells.{cells_for, octets_at, next_at, mark_at}
-use Rattle.octet_region.specs.Chains.{gather, Walk, HasCells, octets_in}
+use Rattle.octet_region.specs.Cells.{cells_for, octets_at, number_at, begin_at}
+use Rattle.octet_region.specs.Chains.{behind_by, jump, gather, Walk, HasCells}
 use Rattle.octet_region.specs.Stored.{Held, Stored}
 
--- the octets of the chain that begins at c, by what marks it
-abbrev pub octets_by : (octets : ℕ → List ℕ) (next : ℕ → ℕ) → ℕ → (mark : ℕ) → Option (List ℕ)
-octets_by octets next c zero = None
-octets_by octets next c (suc n) = Some (gather octets next (cells_for n) n c)
+-- the octets of the chain from c on, where one of a handle begins there
+abbrev pub octets_by : (octets : ℕ → List ℕ) (number : ℕ → ℕ) (n c : ℕ) → (begin : ℕ) → Option (List ℕ)
+octets_by octets number n c zero = None
+octets_by octets number n c (suc _) = Some (gather octets number n c (number c - 32))
 
 -- the octets of a handle
 abbrev pub octets_of : List Cell → ℕ → Option (List ℕ)
-octets_of cells c = octets_by (octets_at cells) (next_at cells) c (mark_at cells c)
+octets_of cells c = octets_by (octets_at cells) (number_at cells) (length cells) c (begin_at cells c)
 
 abbrev pub with_octets : ℕ → Option (List ℕ) → Held → Held
 with_octets c None held = held
@@ -24,7 +23,8 @@ with_octets c (Some octets) held = map.insert held c octets
 abbrev pub held_from : List Cell → ℕ → List Cell → Held
 held_from cells c [] = map.empty
 held_from cells c (cell ∷ rest) =
-    with_octets c (octets_by (octets_at cells) (next_at cells) c cell.mark) (held_from cells (suc c) rest)
+    with_octets c (octets_by (octets_at cells) (number_at cells) (length cells) c (cell.link % 2))
+    (held_from cells (suc c) rest)
 
 unfoldable pub held_in : List Cell → Held
 held_in cells = held_from cells 0 cells
@@ -33,36 +33,39 @@ held_in cells = held_from cells 0 cells
 abbrev pub stored_in : List Cell → (spare : ℕ) → Stored
 stored_in cells spare = record { held = held_in cells; spare = spare; cells = length cells }
 
--- how many cells the chain takes that begins in a cell
-abbrev pub taken_by : (mark : ℕ) → ℕ
-taken_by zero = 0
-taken_by (suc n) = cells_for n
-
--- A chain of a handle: its cells are its own, and it holds as many octets as it says.
-pub record IsLive (owner rank : ℕ → ℕ) (octets : ℕ → List ℕ) (next : ℕ → ℕ) (size c n : ℕ) : Type 0 where
-  pub walk : Walk owner rank next size (suc c) 0 (cells_for n) c
-  pub whole : length (gather octets next (cells_for n) n c) ≡ n
+-- A chain of a handle: its cells are its own, and no more than its octets want.
+pub record IsLive (owner rank number : ℕ → ℕ) (size c : ℕ) : Type 0 where
+  pub more : ℕ
+  pub walk : Walk owner rank number size (suc c) 0 (suc more) c
+  pub last : number (jump (behind_by number) more c) ≤ 32
+  pub full : cells_for (32 * more + number (jump (behind_by number) more c)) ≡ suc more
 
 -- No cell is in two chains: the owner of each is 0 for the free ones, and c + 1 for those of the handle c.
-pub record IsShaped (octets : ℕ → List ℕ) (next mark : ℕ → ℕ) (size free spare : ℕ) : Type 0 where
+pub record IsShaped (number begin : ℕ → ℕ) (size free spare : ℕ) : Type 0 where
   pub owner : ℕ → ℕ
   pub rank : ℕ → ℕ
-  pub unused : Walk owner rank next size 0 0 spare free
-  pub live : (c n : ℕ) → mark c ≡ suc n → IsLive owner rank octets next size c n
+  pub unused : Walk owner rank number size 0 0 spare free
+  pub live : (c : ℕ) → begin c ≡ 1 → IsLive owner rank number size c
 
--- Cells of a region, of which so many are free, the chain of these from one on: all are free or taken.
+-- Each cell holds 32 octets.
+abbrev pub AreFull : List Cell → Type 0
+AreFull cells = (d : ℕ) → d < length cells → length (octets_at cells d) ≡ 32
+
+-- Cells of a region, of which so many are free, the chain of these from one on.
 pub record IsIntact (cells : List Cell) (free spare : ℕ) : Type 0 where
-  pub shape : IsShaped (octets_at cells) (next_at cells) (mark_at cells) (length cells) free spare
-  pub counted : sum_by (λ cell. taken_by cell.mark) cells + spare ≡ length cells
+  pub shape : IsShaped (number_at cells) (begin_at cells) (length cells) free spare
+  pub full : AreFull cells
+  pub few : length cells < 2 ^ 27
+  pub fits : free + 33 < 2 ^ 31
+
+-- Each chain of a handle is there, in cells of 32 octets.
+pub record AreWhole (cells : List Cell) : Type 0 where
+  pub chains : (c : ℕ) → begin_at cells c ≡ 1 → HasCells cells c
+  pub full : AreFull cells
   pub few : length cells < 2 ^ 27
 
--- Each chain of a handle is there, and holds as many octets as it says.
-abbrev pub AreWhole : List Cell → Type 0
-AreWhole cells =
-    (c n : ℕ) → mark_at cells c ≡ suc n → HasCells cells n c × (length (octets_in cells n c) ≡ n)
-
--- the chain of a handle, which holds so many octets
-pub record IsChain (cells : List Cell) (first size : ℕ) : Type 0 where
-  pub inside : HasCells cells size first
-  pub octets : octets_of cells first ≡ Some (octets_in cells size first)
-  pub whole : length (octets_in cells size first) ≡ size
+-- a chain in cells of 32 octets
+pub record IsChain (cells : List Cell) (c : ℕ) : Type 0 where
+  pub inside : HasCells cells c
+  pub full : AreFull cells
+  pub few : length cells < 2 ^ 27

@@ -5,7 +5,7 @@ ghost use Rattle.std.specs.Prelude.{vec_len, vec_capacity};
 ghost use Rattle.octet_region.specs.Cells.{new_cell};
 ghost use Rattle.octet_region.specs.Shape.{octets_of, IsIntact};
 
-use crate::cells::Cell;
+use crate::cells::{Cell, FIRST};
 
 /// Takes memory for so many more cells, where there is none: for these alone, or for a sixteenth
 /// of those that are there, whichever is more. `false` where there is none to be had.
@@ -45,6 +45,7 @@ pub(crate) fn give_cells(cells: &mut Vec<Cell>, free: u32, spare: usize, more: u
 fn give_cell(cells: &mut Vec<Cell>, free: u32) -> u32
     requires room { vec_len cells.old < vec_capacity cells.old }
     requires few { vec_len cells.old < 2 ^ 27 }
+    requires fits { free + 33 < 2 ^ 31 }
     ensures cells { cells.new.items ≡ cells.old.items ++ new_cell free ∷ [] }
     ensures room { vec_capacity cells.new ≡ vec_capacity cells.old }
     ensures length { vec_len cells.new ≡ vec_len cells.old + 1 }
@@ -53,8 +54,7 @@ fn give_cell(cells: &mut Vec<Cell>, free: u32) -> u32
     let number = cells.len() as u32;
     cells.push_reserved(Cell {
         octets: [0; 32],
-        next: free,
-        mark: 0,
+        link: 2 * (free + FIRST),
     });
     number
 }

@@ -1,28 +1,52 @@
 //! Octets of a chain where they stand: their number, some of them lent, compared and copied.
 
 ghost use Rattle.std.specs.Prelude.{◌≡◌, ◌≤◌, ◌<◌, ◌+◌, ◌-◌, ◌%◌, ◌++◌, ℕ, List, drop, take, length};
-ghost use Rattle.std.specs.Prelude.{IsTrue, ◌↔◌, None, Some, IfNone, IfSome};
-ghost use Rattle.octet_region.specs.Cells.{cells_for, next_at, octets_at};
-ghost use Rattle.octet_region.specs.Chains.{HasCells, octets_in};
+ghost use Rattle.std.specs.Prelude.{IsTrue, ◌↔◌, None, Some, false};
+ghost use Rattle.octet_region.specs.Cells.{begin_at, number_at};
+ghost use Rattle.octet_region.specs.Chains.{octets_in};
 ghost use Rattle.octet_region.specs.Shape.{octets_of, AreWhole, IsChain};
 ghost use Rattle.octet_region.specs.Stored.{Copies, CopiesFrom, StandsAt, front_of, length_of, piece_of};
 ghost use Rattle.octet_region.specs.Stored.{pieces_of};
 
-use crate::cells::{CELL, Cell, is_same, mark_of, next_at, octets_at};
+use crate::cells::{CELL, Cell, count_of, goes_on, is_same, link_at, link_of, next_of, octets_at};
 use octets::{behind, front, put_at};
+
+/// Whether the octets of a handle begin in a cell.
+#[inline(always)]
+pub(crate) fn is_live(cells: &[Cell], first: u32) -> bool
+    requires { AreWhole cells.now }
+    ensures begins { IsTrue result ↔ (begin_at cells.now first ≡ 1) }
+    ensures chain { IsTrue result → IsChain cells.now first }
+    ensures some { IsTrue result
+        → octets_of cells.now first ≡ Some (octets_in cells.now first) }
+    ensures none { result ≡ false → octets_of cells.now first ≡ None }
+{
+    link_of(cells, first) % 2 == 1
+}
 
 /// How many octets the chain of a handle holds. None where none begins in this cell.
 pub(crate) fn size_at(cells: &[Cell], first: u32) -> Option<usize>
     requires { AreWhole cells.now }
-    ensures size { result ≡ length_of (octets_of cells.now first) }
-    ensures some { IfSome result (λ size. IsChain cells.now first size) }
-    ensures none { IfNone result (octets_of cells.now first ≡ None) }
+    ensures { result ≡ length_of (octets_of cells.now first) }
 {
-    let mark = mark_of(cells, first);
-    if mark == 0 {
+    if !is_live(cells, first) {
         return None;
     }
-    Some(mark as usize - 1)
+    Some(size_along(cells, first))
+}
+
+/// The same of a chain.
+fn size_along(cells: &[Cell], first: u32) -> usize
+    requires { IsChain cells.now first }
+    ensures { result ≡ length (octets_in cells.now first) }
+{
+    let mut cell = first;
+    let mut size = 0;
+    while goes_on(link_at(cells, cell)) {
+        cell = next_of(link_at(cells, cell));
+        size += CELL;
+    }
+    size + count_of(link_at(cells, cell))
 }
 
 /// The octets of a handle that stand in its first cell.
@@ -30,10 +54,19 @@ pub(crate) fn front_at(cells: &[Cell], first: u32) -> &[u8]
     requires { AreWhole cells.now }
     ensures { result.now ≡ front_of (octets_of cells.now first) }
 {
-    let Some(size) = size_at(cells, first) else {
+    if !is_live(cells, first) {
         return &[];
-    };
-    front(octets_at(cells, first), size.min(CELL))
+    }
+    front_in(cells, first)
+}
+
+/// The same of a chain.
+#[inline(always)]
+fn front_in(cells: &[Cell], first: u32) -> &[u8]
+    requires { IsChain cells.now first }
+    ensures { result.now ≡ take 32 (octets_in cells.now first) }
+{
+    front(octets_at(cells, first), count_of(link_at(cells, first)))
 }
 
 /// The octets of a handle from a place on, up to the end of the cell in which the place is.
@@ -42,24 +75,34 @@ pub(crate) fn piece_at(cells: &[Cell], first: u32, place: usize) -> &[u8]
     requires { AreWhole cells.now }
     ensures { result.now ≡ piece_of (octets_of cells.now first) place }
 {
-    let Some(size) = size_at(cells, first) else {
-        return &[];
-    };
-    piece_within(cells, first, size, place)
-}
-
-/// The same of a chain of so many octets.
-#[inline(always)]
-fn piece_within(cells: &[Cell], first: u32, size: usize, place: usize) -> &[u8]
-    requires inside { HasCells cells.now size first }
-    requires whole { length (octets_in cells.now size first) ≡ size }
-    ensures { result.now ≡ piece_of (Some (octets_in cells.now size first)) place }
-{
-    if place >= size {
+    if !is_live(cells, first) {
         return &[];
     }
-    let (cell, left, from) = skip_to(cells, first, size, place);
-    behind(front(octets_at(cells, cell), left.min(CELL)), from)
+    piece_within(cells, first, place)
+}
+
+/// The same of a chain.
+#[inline(always)]
+fn piece_within(cells: &[Cell], first: u32, place: usize) -> &[u8]
+    requires { IsChain cells.now first }
+    ensures { result.now ≡ take (32 - place % 32) (drop place (octets_in cells.now first)) }
+{
+    let (cell, from) = skip_to(cells, first, place);
+    piece_from(cells, cell, from)
+}
+
+/// The same from a place in the first cell of a chain on, or behind all of them.
+#[inline(always)]
+fn piece_from(cells: &[Cell], first: u32, from: usize) -> &[u8]
+    requires chain { IsChain cells.now first }
+    requires near { 32 ≤ from → number_at cells.now first ≤ 32 }
+    ensures { result.now ≡ take (32 - from % 32) (drop from (octets_in cells.now first)) }
+{
+    let count = count_of(link_at(cells, first));
+    if from >= count {
+        return &[];
+    }
+    behind(front(octets_at(cells, first), count), from)
 }
 
 /// The octets of a handle from a place on, up to the end of the cell behind the one in which the
@@ -69,47 +112,38 @@ pub(crate) fn pieces_at(cells: &[Cell], first: u32, place: usize) -> (&[u8], &[u
     requires { AreWhole cells.now }
     ensures { result.0.now ++ result.1.now ≡ pieces_of (octets_of cells.now first) place }
 {
-    let Some(size) = size_at(cells, first) else {
-        return (&[], &[]);
-    };
-    pieces_within(cells, first, size, place)
-}
-
-/// The same of a chain of so many octets.
-#[inline(always)]
-fn pieces_within(cells: &[Cell], first: u32, size: usize, place: usize) -> (&[u8], &[u8])
-    requires inside { HasCells cells.now size first }
-    requires whole { length (octets_in cells.now size first) ≡ size }
-    ensures { result.0.now ++ result.1.now
-        ≡ pieces_of (Some (octets_in cells.now size first)) place }
-{
-    if place >= size {
+    if !is_live(cells, first) {
         return (&[], &[]);
     }
-    if place < CELL {
-        return pieces_from(cells, first, size, place);
-    }
-    let (cell, left, from) = skip_to(cells, first, size, place);
-    pieces_from(cells, cell, left, from)
+    pieces_within(cells, first, place)
 }
 
-/// The same from a place in the first cell of a chain on.
+/// The same of a chain.
 #[inline(always)]
-fn pieces_from(cells: &[Cell], first: u32, size: usize, from: usize) -> (&[u8], &[u8])
-    requires inside { HasCells cells.now size first }
-    requires whole { length (octets_in cells.now size first) ≡ size }
-    requires near { from < 32 }
-    requires within { from < size }
+fn pieces_within(cells: &[Cell], first: u32, place: usize) -> (&[u8], &[u8])
+    requires { IsChain cells.now first }
     ensures { result.0.now ++ result.1.now
-        ≡ take (64 - from) (drop from (octets_in cells.now size first)) }
+        ≡ take (64 - place % 32) (drop place (octets_in cells.now first)) }
 {
-    if size <= CELL {
-        return (behind(front(octets_at(cells, first), size), from), &[]);
+    let (cell, from) = skip_to(cells, first, place);
+    pieces_from(cells, cell, from)
+}
+
+/// The same from a place in the first cell of a chain on, or behind all of them.
+#[inline(always)]
+fn pieces_from(cells: &[Cell], first: u32, from: usize) -> (&[u8], &[u8])
+    requires chain { IsChain cells.now first }
+    requires near { 32 ≤ from → number_at cells.now first ≤ 32 }
+    ensures { result.0.now ++ result.1.now
+        ≡ take (64 - from % 32) (drop from (octets_in cells.now first)) }
+{
+    let link = link_at(cells, first);
+    if !goes_on(link) {
+        return (piece_from(cells, first, from), &[]);
     }
-    let next = next_at(cells, first);
     (
         behind(octets_at(cells, first), from),
-        front(octets_at(cells, next), (size - CELL).min(CELL)),
+        front_in(cells, next_of(link)),
     )
 }
 
@@ -118,30 +152,26 @@ pub(crate) fn stand_at(cells: &[Cell], first: u32, offset: usize, octets: &[u8])
     requires { AreWhole cells.now }
     ensures { StandsAt (octets_of cells.now first) offset octets.now result }
 {
-    let Some(size) = size_at(cells, first) else {
+    if !is_live(cells, first) {
         return false;
-    };
-    is_within(cells, first, size, offset, octets)
+    }
+    is_within(cells, first, offset, octets)
 }
 
-/// The same of a chain of so many octets.
-fn is_within(cells: &[Cell], first: u32, size: usize, offset: usize, octets: &[u8]) -> bool
-    requires inside { HasCells cells.now size first }
-    requires whole { length (octets_in cells.now size first) ≡ size }
+/// The same of a chain.
+fn is_within(cells: &[Cell], first: u32, offset: usize, octets: &[u8]) -> bool
+    requires { IsChain cells.now first }
     ensures { IsTrue result
-        ↔ (take (length octets.now) (drop offset (octets_in cells.now size first)) ≡ octets.now) }
+        ↔ (take (length octets.now) (drop offset (octets_in cells.now first)) ≡ octets.now) }
 {
     if octets.len() == 0 {
         return true;
     }
-    if offset > size {
+    let (cell, from) = skip_to(cells, first, offset);
+    if from >= CELL {
         return false;
     }
-    if octets.len() > size - offset {
-        return false;
-    }
-    let (cell, left, from) = skip_to(cells, first, size, offset);
-    compare_along(cells, cell, left, from, octets)
+    compare_along(cells, cell, from, octets)
 }
 
 /// Copies the octets of a handle to the front of others, and answers how many they are.
@@ -151,21 +181,31 @@ pub(crate) fn copy_whole(cells: &[Cell], first: u32, into: &mut [u8]) -> Option<
         → octets_of cells.now first ≡ Some octets → length octets ≤ length into.old }
     ensures { Copies (octets_of cells.now first) into.old result into.new }
 {
-    let Some(size) = size_at(cells, first) else {
+    if !is_live(cells, first) {
         return None;
-    };
-    copy_front(cells, first, size, into);
-    Some(size)
+    }
+    Some(copy_run(cells, first, into))
 }
 
-/// The same of a chain of so many octets.
-fn copy_front(cells: &[Cell], first: u32, size: usize, into: &mut [u8])
-    requires inside { HasCells cells.now size first }
-    requires whole { length (octets_in cells.now size first) ≡ size }
-    requires room { size ≤ length into.old }
-    ensures { into.new ≡ octets_in cells.now size first ++ drop size into.old }
+/// The same of a chain.
+fn copy_run(cells: &[Cell], first: u32, into: &mut [u8]) -> usize
+    requires chain { IsChain cells.now first }
+    requires room { length (octets_in cells.now first) ≤ length into.old }
+    ensures count { result ≡ length (octets_in cells.now first) }
+    ensures copied { into.new ≡ octets_in cells.now first ++ drop result into.old }
 {
-    copy_along(cells, first, size, 0, &mut into[..size]);
+    let mut cell = first;
+    let mut at = 0;
+    let mut link = link_at(cells, first);
+    while goes_on(link) {
+        put_at(into, at, octets_at(cells, cell));
+        cell = next_of(link);
+        link = link_at(cells, cell);
+        at += CELL;
+    }
+    let count = count_of(link);
+    put_at(into, at, front(octets_at(cells, cell), count));
+    at + count
 }
 
 /// Fills others with the octets of a handle from a place on. `false` where there are not as many.
@@ -173,93 +213,113 @@ pub(crate) fn copy_part(cells: &[Cell], first: u32, offset: usize, into: &mut [u
     requires { AreWhole cells.now }
     ensures { CopiesFrom (octets_of cells.now first) offset into.old result into.new }
 {
-    let Some(size) = size_at(cells, first) else {
+    if !is_live(cells, first) {
         return false;
-    };
-    copy_within(cells, first, size, offset, into)
+    }
+    copy_within(cells, first, offset, into)
 }
 
-/// The same of a chain of so many octets.
-fn copy_within(cells: &[Cell], first: u32, size: usize, offset: usize, into: &mut [u8]) -> bool
-    requires inside { HasCells cells.now size first }
-    requires whole { length (octets_in cells.now size first) ≡ size }
-    ensures { CopiesFrom (Some (octets_in cells.now size first)) offset into.old result into.new }
+/// The same of a chain.
+fn copy_within(cells: &[Cell], first: u32, offset: usize, into: &mut [u8]) -> bool
+    requires { IsChain cells.now first }
+    ensures { CopiesFrom (Some (octets_in cells.now first)) offset into.old result into.new }
 {
-    if offset > size {
-        return false;
-    }
-    if into.len() > size - offset {
-        return false;
-    }
     if into.len() == 0 {
-        return true;
+        return offset <= size_along(cells, first);
     }
-    let (cell, left, from) = skip_to(cells, first, size, offset);
-    copy_along(cells, cell, left, from, into);
+    let (cell, from) = skip_to(cells, first, offset);
+    if from >= CELL {
+        return false;
+    }
+    if !reaches(cells, cell, from, into.len()) {
+        return false;
+    }
+    copy_along(cells, cell, from, into);
     true
 }
 
-/// The cell of a chain in which the octet of a place stands, how many octets stand from that cell
-/// on, and how many of these before the place.
+/// The cell of a chain in which the octet of a place stands, and how many octets of the cell stand
+/// before it; or the last cell, and 32 or more, where the octets end before.
 #[inline(always)]
-fn skip_to(cells: &[Cell], first: u32, size: usize, offset: usize) -> (u32, usize, usize)
-    requires inside { HasCells cells.now size first }
-    requires within { offset < size }
-    ensures inside { HasCells cells.now result.1 result.0 }
-    ensures near { result.2 < 32 }
-    ensures left { result.1 + offset ≡ size + result.2 }
-    ensures place { result.2 ≡ offset % 32 }
-    ensures same { drop offset (octets_in cells.now size first)
-        ≡ drop result.2 (octets_in cells.now result.1 result.0) }
+fn skip_to(cells: &[Cell], first: u32, place: usize) -> (u32, usize)
+    requires { IsChain cells.now first }
+    ensures chain { IsChain cells.now result.0 }
+    ensures near { 32 ≤ result.1 → number_at cells.now result.0 ≤ 32 }
+    ensures place { result.1 % 32 ≡ place % 32 }
+    ensures count { length (octets_in cells.now result.0) + place
+        ≡ length (octets_in cells.now first) + result.1 }
+    ensures same { drop place (octets_in cells.now first)
+        ≡ drop result.1 (octets_in cells.now result.0) }
 {
-    if offset < CELL {
-        return (first, size, offset);
+    if place < CELL {
+        return (first, place);
     }
-    if offset < 2 * CELL {
-        return (next_at(cells, first), size - CELL, offset - CELL);
-    }
-    let from = offset % CELL;
-    (
-        cell_far(cells, first, size, offset),
-        size - (offset - from),
-        from,
-    )
+    skip_far(cells, first, place)
 }
 
-/// The cell of a chain in which the octet of any place stands.
-// Apart, so that places in the first two cells pass by the loop.
+/// The same by the loop.
+// Apart, so that places in the first cell pass by the loop.
 #[inline(never)]
-fn cell_far(cells: &[Cell], first: u32, size: usize, offset: usize) -> u32
-    requires inside { HasCells cells.now size first }
-    requires within { offset < size }
-    ensures inside { HasCells cells.now (size - (offset - offset % 32)) result }
-    ensures same { drop offset (octets_in cells.now size first)
-        ≡ drop (offset % 32) (octets_in cells.now (size - (offset - offset % 32)) result) }
+fn skip_far(cells: &[Cell], first: u32, place: usize) -> (u32, usize)
+    requires { IsChain cells.now first }
+    ensures chain { IsChain cells.now result.0 }
+    ensures near { 32 ≤ result.1 → number_at cells.now result.0 ≤ 32 }
+    ensures place { result.1 % 32 ≡ place % 32 }
+    ensures count { length (octets_in cells.now result.0) + place
+        ≡ length (octets_in cells.now first) + result.1 }
+    ensures same { drop place (octets_in cells.now first)
+        ≡ drop result.1 (octets_in cells.now result.0) }
 {
     let mut cell = first;
-    let mut left = size;
-    let mut from = offset;
+    let mut from = place;
     while from >= CELL {
-        cell = next_at(cells, cell);
-        left -= CELL;
+        let link = link_at(cells, cell);
+        if !goes_on(link) {
+            return (cell, from);
+        }
+        cell = next_of(link);
         from -= CELL;
     }
-    cell
+    (cell, from)
+}
+
+/// Whether so many octets stand in a chain from a place in its first cell on.
+fn reaches(cells: &[Cell], first: u32, offset: usize, count: usize) -> bool
+    requires chain { IsChain cells.now first }
+    requires near { offset < 32 }
+    ensures { IsTrue result ↔ (offset + count ≤ length (octets_in cells.now first)) }
+{
+    let mut cell = first;
+    let mut from = offset;
+    let mut left = count;
+    while left > CELL - from {
+        let link = link_at(cells, cell);
+        if !goes_on(link) {
+            return false;
+        }
+        cell = next_of(link);
+        left -= CELL - from;
+        from = 0;
+    }
+    from + left <= count_of(link_at(cells, cell))
 }
 
 /// Whether the octets of a chain go on with others from a place in its first cell on.
-fn compare_along(cells: &[Cell], first: u32, size: usize, offset: usize, octets: &[u8]) -> bool
-    requires inside { HasCells cells.now size first }
+fn compare_along(cells: &[Cell], first: u32, offset: usize, octets: &[u8]) -> bool
+    requires chain { IsChain cells.now first }
     requires near { offset < 32 }
-    requires fits { offset + length octets.now ≤ size }
+    requires some { 0 < length octets.now }
     ensures { IsTrue result
-        ↔ (take (length octets.now) (drop offset (octets_in cells.now size first)) ≡ octets.now) }
+        ↔ (take (length octets.now) (drop offset (octets_in cells.now first)) ≡ octets.now) }
 {
     let mut cell = first;
-    let mut left = size;
     let mut from = offset;
     let mut rest = octets;
     while rest.len() > CELL - from {
+        let link = link_at(cells, cell);
+        if !goes_on(link) {
+            return false;
+        }
         if !is_same(
             behind(octets_at(cells, cell), from),
             front(rest, CELL - from),
@@ -267,9 +327,11 @@ fn compare_along(cells: &[Cell], first: u32, size: usize, offset: usize, octets:
             return false;
         }
         rest = behind(rest, CELL - from);
-        cell = next_at(cells, cell);
-        left -= CELL;
+        cell = next_of(link);
         from = 0;
+    }
+    if from + rest.len() > count_of(link_at(cells, cell)) {
+        return false;
     }
     is_same(
         front(behind(octets_at(cells, cell), from), rest.len()),
@@ -278,22 +340,19 @@ fn compare_along(cells: &[Cell], first: u32, size: usize, offset: usize, octets:
 }
 
 /// Fills others with the octets of a chain from a place in its first cell on.
-fn copy_along(cells: &[Cell], first: u32, size: usize, offset: usize, into: &mut [u8])
-    requires inside { HasCells cells.now size first }
+fn copy_along(cells: &[Cell], first: u32, offset: usize, into: &mut [u8])
+    requires chain { IsChain cells.now first }
     requires near { offset < 32 }
-    requires fits { offset + length into.old ≤ size }
-    ensures { into.new
-        ≡ take (length into.old) (drop offset (octets_in cells.now size first)) }
+    requires fits { offset + length into.old ≤ length (octets_in cells.now first) }
+    ensures { into.new ≡ take (length into.old) (drop offset (octets_in cells.now first)) }
 {
     let mut cell = first;
-    let mut left = size;
     let mut from = offset;
     let mut at = 0;
     while into.len() - at > CELL - from {
         put_at(into, at, behind(octets_at(cells, cell), from));
         at += CELL - from;
-        cell = next_at(cells, cell);
-        left -= CELL;
+        cell = next_of(link_at(cells, cell));
         from = 0;
     }
     let count = into.len() - at;

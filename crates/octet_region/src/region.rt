@@ -8,15 +8,17 @@ ghost use Rattle.octet_region.specs.Stored.{Copies, Frees, CopiesFrom, StandsAt,
 ghost use Rattle.octet_region.specs.Stored.{pieces_of};
 
 use crate::Handle;
-use crate::cells::{Cell, cells_for, mark_of};
+use crate::cells::{Cell, cells_for};
 use crate::chains::{free_along, put_along};
 use crate::growth::{give_cells, make_room};
-use crate::reads::{copy_part, copy_whole, front_at, piece_at, pieces_at, size_at, stand_at};
+use crate::reads::{
+    copy_part, copy_whole, front_at, is_live, piece_at, pieces_at, size_at, stand_at,
+};
 use octets::OutOfMemory;
 use std::alloc::Global;
 use std::marker::Model;
 
-/// The most cells: their octets are four gibibytes.
+/// The most cells: their octets are four gibibytes. Links have room for 2^31 - 34.
 const MAX_CELLS: usize = 0x7ff_ffff;
 
 /// Octets by handles, in cells of 32.
@@ -132,22 +134,21 @@ impl Region {
         ensures others { (other : ℕ) → other ≢ handle
             → map.get self.new.held other ≡ map.get self.old.held other }
     {
-        let mark = mark_of(&self.cells, handle.first);
-        if mark == 0 {
+        if !is_live(&self.cells, handle.first) {
             return false;
         }
-        free_along(
+        let count = free_along(
             self.cells.as_mut_slice(),
             handle.first,
             self.free,
             self.spare,
         );
         self.free = handle.first;
-        self.spare += cells_for(mark as usize - 1);
+        self.spare += count;
         true
     }
 
-    /// How many octets a handle holds. None where it isn't live.
+    /// How many octets a handle holds, by a step for each 32 of them. None where it isn't live.
     pub fn length(&self, handle: Handle) -> Option<usize>
         ensures { result ≡ length_of (map.get self.now.held handle) }
     {

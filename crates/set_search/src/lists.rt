@@ -54,9 +54,8 @@ pub trait SetList {
         false
     }
 
-    /// A place behind all sets of the name that the set at a place has. Where the one beside it isn't
-    /// told apart from it, this is mostly the place of the first one that is; a list that tells none
-    /// apart gives its end.
+    /// A place behind that of a set: where one stands there, it has another name. Where the set beside isn't told
+    /// apart from it, this is mostly the place of the first one that is; a list that tells none apart gives its end.
     fn past_name(&self, place: usize) -> usize
         requires { place < length (sets self.now) }
         ensures { IsPastName (sets self.now) place result }

@@ -139,15 +139,15 @@ impl Hints {
         }
     }
 
-    /// Makes the table larger where so many places would leave less than a fifth of it free: by three
-    /// quarters more entries than places. It stays as it is where there is no memory.
+    /// Makes the table larger where so many places would leave less than a fifth of it free: by nine
+    /// sixteenths more entries than places. It stays as it is where there is no memory.
     pub fn grow(&mut self, places: usize) {
         self.waymarks.grow(places);
         let size = self.entries.len();
         if places <= size - size / 5 {
             return;
         }
-        let spare = places / 2 + places / 4;
+        let spare = places / 2 + places / 16;
         let more = places.saturating_add(spare).saturating_add(TRIES) - size;
         if self.entries.reserve_exact(more).is_err() {
             return;

@@ -122,9 +122,9 @@ pub struct Ready {
     pub(crate) edits: u64,
     pub(crate) removed: Vec<SetRef>,
     pub(crate) added: Vec<SetRef>,
-    /// Places for the sets of a zone that is opened.
+    /// Places for the sets of a zone that begins.
     pub(crate) places: Vec<u32>,
-    /// Hints for a zone that is opened.
+    /// Hints for a zone that begins.
     pub(crate) hints: Hints,
     /// Where the octets of a set are written.
     pub(crate) buffer: Vec<u8>,

@@ -19,7 +19,7 @@ use crate::refs::Delta;
 use cidr_routing::Collections;
 use zone_list::{Apexes, SetRef, SetRefs, SetSlots, StoredZone, find_zone, first_from};
 
-/// Notes the name of a zone that is opened, and forgets that of one that is closed.
+/// Notes the name of a zone that begins, and forgets that of one that ends.
 pub fn note_name(apexes: &mut Apexes, made: &ZoneEdit)
     ensures { Notes apexes.old made.now apexes.new }
 {

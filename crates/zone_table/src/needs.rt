@@ -142,7 +142,7 @@ fn reserve_in(list: &mut Vec<StoredZone>, zone: u32, more: usize) -> Result<(), 
     }
 }
 
-/// Makes room for the name of a zone that is opened.
+/// Makes room for the name of a zone that begins.
 pub fn reserve_name(apexes: &mut Apexes, edit: &ZoneEdit) -> Result<(), OutOfMemory>
     ensures { apexes.new ≡ apexes.old }
 {

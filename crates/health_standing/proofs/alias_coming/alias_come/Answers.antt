@@ -50,12 +50,16 @@ listed_is zones are_zones ids numbers seats valves ref feeders comes check same 
     listed ∙ ap (λ (c : Option ℕ). feeders_with ids numbers c (told - 1)) same
     ∙ ap (feeders_with ids numbers comes.set.check) one ∙ sym comes.are
 
-pub returns-then-not-watch-clause-all : goal.returns-then-not-watch-clause-all
-returns-then-not-watch-clause-all c feeders comes =
-    let zones = c.args.zones.now.zones in
-    let t = subst (Watches zones c.args.set) c.in-Some.is c.watch.ensures in
-    let same = one_named zones c.args.set t.0 comes.set c.well_formed-2.ensures t.1 comes.names in
-    absurd (false≢true (sym (ap not (ap (λ w. w.evaluates) (t.2 ∙ ap watch_of same) ∙ comes.on)) ∙ c.if-not-watch.true))
+pub returns-in_default-clause-all : goal.returns-in_default-clause-all
+returns-in_default-clause-all c feeders comes = absurd (c.in_default.ensures.none refl (record {
+  set = comes.set;
+  names = comes.names;
+  on = comes.on;
+  bare = comes.bare;
+  none = comes.none;
+  alone = comes.alone;
+  many = comes.many;
+}))
 
 pub returns-then-told-eq0-clause-all : goal.returns-then-told-eq0-clause-all
 returns-then-told-eq0-clause-all c feeders comes =
@@ -67,17 +71,17 @@ returns-then-told-eq0-clause-all c feeders comes =
 pub returns-in_default-feeders_from-clause-all : goal.returns-in_default-feeders_from-clause-all
 returns-in_default-feeders_from-clause-all c feeders comes =
     let zones = c.args.zones.now.zones in
-    let t = subst (Watches zones c.args.set) c.in-Some.is c.watch.ensures in
-    let same = one_named zones c.args.set t.0 comes.set c.well_formed-2.ensures t.1 comes.names in
-    let check : c.in-Some.watch.check ≡ comes.set.check = ap (λ w. w.check) (t.2 ∙ ap watch_of same) in
+    let t = c.in-Some.ensures.found c.in-Some.watch refl in
+    let same = one_named zones c.args.set t.0.set comes.set c.well_formed-2.ensures t.0.names comes.names in
+    let check : c.in-Some.watch.check ≡ comes.set.check = ap (λ w. w.check) (t.1 ∙ ap watch_of same) in
     absurd (c.in_default-feeders_from.ensures.none refl (subst (HasItsCheck c.args.ids.now) (sym check) comes.its_check))
 
 pub returns-then-not-are_within-clause-all : goal.returns-then-not-are_within-clause-all
 returns-then-not-are_within-clause-all c feeders comes =
     let zones = c.args.zones.now.zones in
-    let t = subst (Watches zones c.args.set) c.in-Some.is c.watch.ensures in
-    let same = one_named zones c.args.set t.0 comes.set c.well_formed-2.ensures t.1 comes.names in
-    let check : c.in-Some.watch.check ≡ comes.set.check = ap (λ w. w.check) (t.2 ∙ ap watch_of same) in
+    let t = c.in-Some.ensures.found c.in-Some.watch refl in
+    let same = one_named zones c.args.set t.0.set comes.set c.well_formed-2.ensures t.0.names comes.names in
+    let check : c.in-Some.watch.check ≡ comes.set.check = ap (λ w. w.check) (t.1 ∙ ap watch_of same) in
     let one = listed_is zones c.well_formed-2.ensures c.args.ids.now c.args.numbers.now c.args.seats.now c.args.valves.now c.args.set feeders comes
     c.in-Some.watch.check check c.target_seat-told.result (c.target_seat-told.ensures comes.set comes.names)
     c.in-Some-feeders_from.feeders (c.in-Some-feeders_from.ensures.found c.in-Some-feeders_from.feeders refl).1 in
@@ -87,10 +91,34 @@ returns-then-not-are_within-clause-all c feeders comes =
 pub returns-clause-all : goal.returns-clause-all
 returns-clause-all c feeders comes =
     let zones = c.args.zones.now.zones in
-    let t = subst (Watches zones c.args.set) c.in-Some.is c.watch.ensures in
-    let same = one_named zones c.args.set t.0 comes.set c.well_formed-2.ensures t.1 comes.names in
-    let check : c.in-Some.watch.check ≡ comes.set.check = ap (λ w. w.check) (t.2 ∙ ap watch_of same) in
+    let t = c.in-Some.ensures.found c.in-Some.watch refl in
+    let same = one_named zones c.args.set t.0.set comes.set c.well_formed-2.ensures t.0.names comes.names in
+    let check : c.in-Some.watch.check ≡ comes.set.check = ap (λ w. w.check) (t.1 ∙ ap watch_of same) in
     let one = listed_is zones c.well_formed-2.ensures c.args.ids.now c.args.numbers.now c.args.seats.now c.args.valves.now c.args.set feeders comes
     c.in-Some.watch.check check c.target_seat-told.result (c.target_seat-told.ensures comes.set comes.names)
     c.in-Some-feeders_from.feeders (c.in-Some-feeders_from.ensures.found c.in-Some-feeders_from.feeders refl).1 in
     (c.in-Some-feeders_from.feeders, (refl, one))
+
+pub returns-clause-found : goal.returns-clause-found
+returns-clause-found c its is =
+    let zones = c.args.zones.now.zones in
+    let t = c.in-Some.ensures.found c.in-Some.watch refl in
+    let check : c.in-Some.watch.check ≡ t.0.set.check = ap (λ w. w.check) t.1 in
+    let some = c.if-told-eq0.false in
+    let told = c.target_seat-told.ensures t.0.set t.0.names in
+    let up : c.target_seat-told.result ≡ suc (c.target_seat-told.result - 1) = omega (arith, some) in
+    let from = c.in-Some-feeders_from.ensures.found c.in-Some-feeders_from.feeders refl in
+    subst (λ (f : AliasFeeders). ComesToLead zones c.args.ids.now c.args.numbers.now c.args.seats.now c.args.valves.now c.args.set (listed_in f)) (some_same is) (record {
+      set = t.0.set;
+      names = t.0.names;
+      on = t.0.on;
+      bare = t.0.bare;
+      none = t.0.none;
+      alone = t.0.alone;
+      its_check = subst (HasItsCheck c.args.ids.now) check from.0;
+      group = c.target_seat-told.result - 1;
+      its_target = subst (IsTargetSeat zones c.args.seats.now c.args.set.zone t.0.set) up told;
+      are = from.1 ∙ ap (λ (o : Option ℕ). feeders_with c.args.ids.now c.args.numbers.now o (c.target_seat-told.result - 1)) check;
+      within = c.are_within.ensures.0 c.if-not-are_within.false;
+      many = t.0.many;
+    })

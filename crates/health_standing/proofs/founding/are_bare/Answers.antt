@@ -6,7 +6,7 @@ use mathlib.Core.Path.{subst}
 use Rattle.health_planning.proofs.Groups.{member_at}
 use Rattle.health_planning.proofs.Noted.{few_members}
 use Rattle.health_planning.specs.Groups.{members_of}
-use Rattle.health_standing.specs.Founding.{IsBare}
+use Rattle.health_standing.specs.Founding.{IsPlainSet}
 use Rattle.zone_model.proofs.Among.{among_at, place_of}
 use Rattle.zone_model.specs.Slotted.{Slotted}
 use Rattle.health_standing.proofs.founding.are_bare.Goals as goal
@@ -21,7 +21,7 @@ returns-then-not-is_bare c =
       λ none. absurd (false≢true none),
       λ all. absurd (false≢true (sym c.if-not-is_bare.true
           ∙ (c.is_bare.ensures m.p.set m.names).1
-          (subst (λ (n : ℕ). IsBare c.args.seats.now n m.p.set) m.slot (all m.p (among_at members c.loop-i.i m.p m.at))))),
+          (subst (λ (n : ℕ). IsPlainSet c.args.seats.now n m.p.set) m.slot (all m.p (among_at members c.loop-i.i m.p m.at))))),
     )
 
 pub loop-i-preserved : goal.loop-i-preserved
@@ -31,8 +31,8 @@ loop-i-preserved c k p early at =
     elim (cases_eq k c.loop-i.i) [
       | inl last ↦
           let same = some_same (sym m.at ∙ ap (slice_get members) (sym last) ∙ at) in
-          subst (λ (q : Slotted). IsBare c.args.seats.now q.slot q.set) same
-          (subst (λ (n : ℕ). IsBare c.args.seats.now n m.p.set) (sym m.slot)
+          subst (λ (q : Slotted). IsPlainSet c.args.seats.now q.slot q.set) same
+          (subst (λ (n : ℕ). IsPlainSet c.args.seats.now n m.p.set) (sym m.slot)
           ((c.is_bare.ensures m.p.set m.names).0 c.if-not-is_bare.false))
       | inr other ↦ c.loop-i.invariant k p (omega arith) at
     ]

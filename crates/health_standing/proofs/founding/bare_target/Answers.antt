@@ -12,7 +12,7 @@ use Rattle.health_planning.specs.Wired.{AreMembers}
 use Rattle.health_planning.specs.Zones.{AreZones, Zone}
 use Rattle.health_planning.specs.declared.seats.Seat.{Seat}
 use Rattle.health_standing.proofs.OneList.{members_same}
-use Rattle.health_standing.specs.Founding.{AllBare, HasBareTarget}
+use Rattle.health_standing.specs.Founding.{ArePlainSets, HasPlainTarget}
 use Rattle.rdata_layout.specs.declared.types.RType.{RType}
 use Rattle.record_set.specs.declared.sets.RecordSet.{RecordSet}
 use Rattle.zone_model.specs.Slotted.{Slotted, sets_of}
@@ -31,7 +31,7 @@ sets_long members = length-map members (λ (p : Slotted). p.set)
 its_members : (zones : List Zone) (are_zones : AreZones zones) (seats : List Seat) (zone : ℕ) (named other : RecordSet)
     (members : List Slotted) (name : List (List ℕ)) (rtype : RType) (g : List Slotted) → other ≡ named
     → target_of other ≡ Some (name, rtype) → AreMembers zones zone name rtype g
-    → HasBareTarget zones seats zone named members → g ≡ members
+    → HasPlainTarget zones seats zone named members → g ≡ members
 its_members zones are_zones seats zone named other members name rtype g same target are has =
     let both : ◌≡◌ {A = List (List ℕ) × RType} (name, rtype) (has.name, has.rtype) =
     some_same (sym target ∙ ap target_of same ∙ has.target) in
@@ -70,7 +70,7 @@ returns-then-not-are_bare-clause-all c named members names has =
     c.find_group-group.ensures.zone c.find_group-group.ensures.sets in
     let g = its_members zones c.well_formed-2.ensures c.args.seats.now c.args.set.zone named t.0 members c.in-Some.target.0 c.in-Some.target.1
     (members_of zones c.find_group-group.result) same t.2 are has in
-    absurd (false≢true (sym c.if-not-are_bare.true ∙ c.are_bare.ensures.1 (subst (AllBare c.args.seats.now) (sym g) has.bare)))
+    absurd (false≢true (sym c.if-not-are_bare.true ∙ c.are_bare.ensures.1 (subst (ArePlainSets c.args.seats.now) (sym g) has.bare)))
 
 pub returns-clause-found : goal.returns-clause-found
 returns-clause-found c its named is names =
@@ -84,7 +84,7 @@ returns-clause-found c its named is names =
     let count = c.find_group-group.ensures.count in
     let some = c.if-group-eq0.false in
     subst (λ (g : Group). IsGroupNow zones g × ((g.zone ≡ c.args.set.zone)
-    × ((g.length ≡ length (members_of zones g)) × HasBareTarget zones c.args.seats.now c.args.set.zone named (members_of zones g))))
+    × ((g.length ≡ length (members_of zones g)) × HasPlainTarget zones c.args.seats.now c.args.set.zone named (members_of zones g))))
     (some_same is) (
       c.find_group-group.ensures.now,
       (

@@ -31,3 +31,6 @@ loop-preserved c =
       same = λ q. ap (λ (w : List Cell). octets_of w q) e
           ∙ more_same c.loop.cells.items c.loop.free (c.args.spare + c.loop.counter) i.sound q ∙ i.same q;
     }
+
+pub give_cell-free-requires-clause-fits : goal.give_cell-free-requires-clause-fits
+give_cell-free-requires-clause-fits c = c.loop.invariant.sound.fits

@@ -1,6 +1,8 @@
-use Rattle.std.proofs.Common.{ap, arith}
+use Rattle.std.proofs.Common.{ap, arith, length}
+use Rattle.octet_region.specs.Cells.{number_at, begin_at}
 use Rattle.octet_region.specs.Stored.{Stored}
 use Rattle.octet_region.proofs.Regions.{known_below}
+use Rattle.octet_region.proofs.Shapes.{spare_few}
 use Rattle.octet_region.proofs.region.Region.cells.Goals as goal
 
 pub returns-clause-below : goal.returns-clause-below
@@ -13,5 +15,8 @@ returns-clause-below c = λ handle octets live.
 
 pub returns-clause-spare : goal.returns-clause-spare
 returns-clause-spare c =
-    let counted = c.self.invariant.counted in
-    omega (arith, counted, c.len.ensures, ap (λ (s : Stored). s.spare) c.self.view_is)
+    let items = c.self.inside.cells.items in
+    let few =
+    spare_few (number_at items) (begin_at items) (length items) c.self.inside.free c.self.inside.spare
+    c.self.invariant.shape in
+    omega (arith, few, c.len.ensures, ap (λ (s : Stored). s.spare) c.self.view_is)

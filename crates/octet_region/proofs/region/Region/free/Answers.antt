@@ -1,50 +1,72 @@
-use Rattle.std.proofs.Common.{◌≡◌, ◌+◌, ◌-◌, ◌<◌, ap, sym, ◌∙◌, List, length, subst, refl, arith, None, false}
+use Rattle.std.proofs.Common.{◌≡◌, ◌+◌, ap, sym, ◌∙◌, List, length, subst, refl, arith, None, Some, false}
 use Rattle.std.specs.FinMap as map
 use Rattle.std.specs.Vec.{with_items}
 use Rattle.std.proofs.lemmas.List.{with_items_is}
 use Rattle.octet_region.specs.declared.cells.Cell.{Cell}
-use Rattle.octet_region.specs.Cells.{cells_for, mark_at, next_at, octets_at}
-use Rattle.octet_region.specs.Chains.{gather}
+use Rattle.octet_region.specs.Cells.{cells_for, begin_at, number_at}
+use Rattle.octet_region.specs.Chains.{octets_in}
 use Rattle.octet_region.specs.Shape.{held_in, octets_of}
 use Rattle.octet_region.specs.Stored.{Stored, Held, Frees}
-use Rattle.octet_region.proofs.Held.{held_free}
-use Rattle.octet_region.proofs.Regions.{not_known, known, one_less, frees, freed_gone, freed_others}
-use Rattle.octet_region.proofs.Sound.{live_length}
+use Rattle.octet_region.proofs.Held.{get_held, held_free}
+use Rattle.octet_region.proofs.Regions.{seen, whole_of, frees, freed_gone, freed_others}
+use Rattle.octet_region.proofs.Shapes.{spare_few}
 use Rattle.octet_region.proofs.region.Region.free.Goals as goal
 
-pub returns-then-mark-eq0-clause-freed : goal.returns-then-mark-eq0-clause-freed
-returns-then-mark-eq0-clause-freed c =
-    let items = c.self.inside.cells.items in
-    let view = ap (λ (s : Stored). s.held) c.self.view_is in
-    let at : mark_at items c.args.handle ≡ 0 =
-    sym
-    (c.mark_of-mark.ensures
-    ∙ ap (λ (w : List Cell). mark_at w c.handle.inside.first) c.deref.ensures.value
-    ∙ ap (λ h. mark_at items h) c.handle.view_is)
-    ∙ c.if-mark-eq0.true
-    in
-    let e = not_known items c.args.self.now c.args.handle view at in
+pub is_live-requires : goal.is_live-requires
+is_live-requires c =
+    whole_of c.self.inside.cells.items _ c.self.inside.free c.self.inside.spare c.self.invariant
+    c.deref.ensures.value
+
+pub returns-then-not-is_live-clause-freed : goal.returns-then-not-is_live-clause-freed
+returns-then-not-is_live-clause-freed c =
+    let held = ap (λ (s : Stored). s.held) c.self.view_is in
+    let is =
+    seen c.self.inside.cells.items c.args.self.now _ _ c.args.handle c.deref.ensures.value
+    c.handle.view_is held in
+    let e : map.get c.args.self.now.held c.args.handle ≡ None = sym is ∙ c.if-not-is_live.ensures.none refl in
     subst (λ o. Frees o c.args.self.now c.args.handle false c.args.self.now) (sym e) (refl, refl)
+
+pub returns-then-not-is_live-clause-gone : goal.returns-then-not-is_live-clause-gone
+returns-then-not-is_live-clause-gone c =
+    let held = ap (λ (s : Stored). s.held) c.self.view_is in
+    let is =
+    seen c.self.inside.cells.items c.args.self.now _ _ c.args.handle c.deref.ensures.value
+    c.handle.view_is held in
+    sym is ∙ c.if-not-is_live.ensures.none refl
+
+pub free_along-count-requires-clause-live : goal.free_along-count-requires-clause-live
+free_along-count-requires-clause-live c =
+    ap (λ (w : List Cell). begin_at w c.handle.inside.first) (c.as_mut_slice.ensures.value ∙ sym c.deref.ensures.value)
+    ∙ c.if-not-is_live.ensures.begins.0 refl
+
+pub overflow_add-self : goal.overflow_add-self
+overflow_add-self c =
+    let f = c.free_along-count in
+    let s = f.ensures.sound in
+    let few = s.few in
+    let spare =
+    spare_few (number_at f.new.cells) (begin_at f.new.cells) (length f.new.cells) c.handle.inside.first
+    (c.self.inside.spare + f.result) s.shape in
+    omega (arith, few, spare)
 
 pub returns-clause-freed : goal.returns-clause-freed
 returns-clause-freed c =
     let items = c.self.inside.cells.items in
     let handle = c.args.handle in
-    let mark = c.mark_of-mark.result in
+    let first = c.handle.inside.first in
+    let f = c.free_along-count in
     let held_view = ap (λ (s : Stored). s.held) c.self.view_is in
     let spare_view = ap (λ (s : Stored). s.spare) c.self.view_is in
-    let at : mark_at items handle ≡ mark =
-    sym
-    (c.mark_of-mark.ensures
-    ∙ ap (λ (w : List Cell). mark_at w c.handle.inside.first) c.deref.ensures.value
-    ∙ ap (λ h. mark_at items h) c.handle.view_is)
+    let octets = octets_in items handle in
+    let live : octets_of items handle ≡ Some octets =
+    ap (λ h. octets_of items h) (sym c.handle.view_is)
+    ∙ ap (λ (w : List Cell). octets_of w first) (sym c.deref.ensures.value)
+    ∙ c.if-not-is_live.ensures.some refl
+    ∙ ap (λ (w : List Cell). Some (octets_in w first)) c.deref.ensures.value
+    ∙ ap (λ h. Some (octets_in items h)) c.handle.view_is
     in
-    let some : 0 < mark = omega (arith, c.if-mark-eq0.false) in
-    let marked = one_less (mark_at items handle) mark at some in
-    let e = known items c.args.self.now handle (mark - 1) held_view marked in
-    let long =
-    live_length items handle c.self.inside.free c.self.inside.spare (mark - 1) c.self.invariant marked in
-    let f = c.free_along in
+    let e : map.get c.args.self.now.held handle ≡ Some octets =
+    ap (λ (h : Held). map.get h handle) (sym held_view) ∙ get_held items handle ∙ live in
     let new : (with_items c.self.inside.cells f.new.cells).items ≡ f.new.cells =
     with_items_is c.self.inside.cells f.new.cells
     (omega (arith, f.auto.cells, c.as_mut_slice.ensures.len)) in
@@ -54,9 +76,11 @@ returns-clause-freed c =
     (λ q ne. f.ensures.others q (λ x. ne (x ∙ c.handle.view_is))
     ∙ ap (λ (w : List Cell). octets_of w q) c.as_mut_slice.ensures.value)
     in
-    let octets = gather (octets_at items) (next_at items) (cells_for (mark - 1)) (mark - 1) handle in
-    let count : c.cells_for.result ≡ cells_for (length octets) = c.cells_for.ensures
-    ∙ ap cells_for (sym long) in
+    let count : f.result ≡ cells_for (length octets) =
+    f.ensures.count octets
+    (ap (λ (w : List Cell). octets_of w first) c.as_mut_slice.ensures.value
+    ∙ ap (λ h. octets_of items h) c.handle.view_is ∙ live)
+    in
     let same : length f.new.cells
     ≡ length items = omega (arith, f.auto.cells, ap length c.as_mut_slice.ensures.value) in
     frees c.args.self.now _ handle octets e (λ i. record {
@@ -65,19 +89,6 @@ returns-clause-freed c =
           (ap (λ n. c.self.inside.spare + n) count ∙ ap (λ k. k + cells_for (length octets)) spare_view) i;
       cells = (ap length new ∙ same ∙ ap (λ (s : Stored). s.cells) c.self.view_is) i;
     })
-
-pub returns-then-mark-eq0-clause-gone : goal.returns-then-mark-eq0-clause-gone
-returns-then-mark-eq0-clause-gone c =
-    let items = c.self.inside.cells.items in
-    let view = ap (λ (s : Stored). s.held) c.self.view_is in
-    let at : mark_at items c.args.handle ≡ 0 =
-    sym
-    (c.mark_of-mark.ensures
-    ∙ ap (λ (w : List Cell). mark_at w c.handle.inside.first) c.deref.ensures.value
-    ∙ ap (λ h. mark_at items h) c.handle.view_is)
-    ∙ c.if-mark-eq0.true
-    in
-    not_known items c.args.self.now c.args.handle view at
 
 pub returns-clause-gone : goal.returns-clause-gone
 returns-clause-gone c = freed_gone c.args.self.now _ c.args.handle (returns-clause-freed c)

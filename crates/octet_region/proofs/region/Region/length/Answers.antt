@@ -14,4 +14,4 @@ returns c =
     let is =
     seen c.self.inside.cells.items c.args.self.now _ _ c.args.handle c.deref.ensures.value
     c.handle.view_is held in
-    c.size_at.ensures.size ∙ ap length_of is
+    c.size_at.ensures ∙ ap length_of is

@@ -5,9 +5,10 @@ use Rattle.octet_region.proofs.region.Region.new.Goals as goal
 
 empty_sound : IsIntact [] 0 0
 empty_sound = record {
-  shape = record { owner = λ _. 0; rank = λ _. 0; unused = tt; live = λ c n e. absurd (omega arith) };
-  counted = omega arith;
+  shape = record { owner = λ _. 0; rank = λ _. 0; unused = tt; live = λ c e. absurd (omega (arith, e)) };
+  full = λ d lt. absurd (omega (arith, lt));
   few = omega arith;
+  fits = omega arith;
 }
 
 pub invariant_of-result : goal.invariant_of-result
