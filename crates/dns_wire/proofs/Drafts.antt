@@ -426,3 +426,11 @@ ends m d aa rcode limit scope s room =
             ∙ sym (cut_wire goal limit (omega (arith, size, h.longer, room))))
       ]
     ]
+
+-- what the query told stays where records are dropped
+kept_edns : (fits : Bool) (d : Draft) → (if fits then d else emptied d).edns ≡ d.edns
+kept_edns true d = refl
+kept_edns false d = refl
+
+pub limited_edns : (limit more : ℕ) (d : Draft) → (limited limit more d).edns ≡ d.edns
+limited_edns limit more d = kept_edns (nat_le (length d.bytes + more) limit) d

@@ -52,3 +52,13 @@ between first second third owner fixed tail start a b end size within ends one t
     ∙ ap (λ t. t ++ fixed ++ tail) front
     ∙ append_assoc (start ++ owner) fixed tail
     ∙ append_assoc start owner (fixed ++ tail)
+
+-- of a piece that stands behind some octets the first ones
+pub counted_front : (at used : ℕ) (piece before after : List ℕ) → used ≤ length piece → at ≤ length before
+    → take (at + length piece) after ≡ take at before ++ piece
+    → take (at + used) after ≡ take at before ++ take used piece
+counted_front at used piece before after less within e =
+    sym (take_less (at + used) (at + length piece) after (omega (arith, less)))
+    ∙ ap (take (at + used)) e
+    ∙ ap (λ n. take (n + used) (take at before ++ piece)) (sym (length-take-le at before within))
+    ∙ take-append-add (take at before) piece used

@@ -7,7 +7,7 @@ ghost use Rattle.dns_wire.specs.Message.{fixed_octets, record_octets};
 
 use crate::data::add_data;
 use crate::pointers::add_name;
-use octets::put_at;
+use octets::{four_octets, put_at, two_octets};
 use rdata_layout::{Name, RType};
 
 /// The octets of a record between its owner and its data.
@@ -53,17 +53,10 @@ pub(crate) fn add_record(
 fn fixed_octets(rtype: RType, ttl: u32, data_len: u16) -> [u8; 10]
     ensures { result ≡ fixed_octets rtype ttl data_len }
 {
-    let number = rtype.number();
+    let number = two_octets(rtype.number());
+    let ttl = four_octets(ttl);
+    let len = two_octets(data_len);
     [
-        (number / 256) as u8,
-        (number % 256) as u8,
-        0,
-        1,
-        (ttl / 16_777_216) as u8,
-        (ttl / 65_536 % 256) as u8,
-        (ttl / 256 % 256) as u8,
-        (ttl % 256) as u8,
-        (data_len / 256) as u8,
-        (data_len % 256) as u8,
+        number[0], number[1], 0, 1, ttl[0], ttl[1], ttl[2], ttl[3], len[0], len[1],
     ]
 }

@@ -5,13 +5,12 @@ ghost use Rattle.rdata_layout.specs.Layout.{IsLayout};
 ghost use Rattle.dns_wire.specs.Draft.{Follows, StandsFor, with_record, reply_to};
 ghost use Rattle.dns_wire.specs.Steps.{closed, recorded, limited, emptied, ended};
 ghost use Rattle.dns_wire.specs.Header.{FitsRcode, header_octets, short_reply};
-ghost use Rattle.dns_wire.specs.Message.{Message, octets_within};
+ghost use Rattle.dns_wire.specs.Message.{Message, octets_within, opt_octets};
 ghost use Rattle.dns_wire.specs.Draft.{opt_of};
 ghost use Rattle.dns_message.specs.Whole.{IsWhole};
 
 use crate::header::Header;
-use crate::opt::{MOST_OF_OPT, write_opt};
-use crate::pointers::append;
+use crate::opt::{add_opt, opt_len};
 use crate::record::add_record;
 use dns_message::{Edns, Query};
 use octets::{OutOfMemory, fill_front, front, put_at, zeros};
@@ -169,10 +168,9 @@ impl Reply {
         ensures room { self.new.room ≡ self.old.room }
         ensures len { result ≡ length self.new.bytes }
     {
-        let mut opt = [0; MOST_OF_OPT];
-        let opt_len = write_opt(&self.edns, rcode, scope, &mut opt);
-        self.limit_to(limit, opt_len);
-        self.close(front(&opt, opt_len));
+        let more = opt_len(&self.edns);
+        self.limit_to(limit, more);
+        self.close(rcode, scope);
         self.write_header(aa, rcode);
         self.len
     }
@@ -250,15 +248,15 @@ impl Reply {
         }
     }
 
-    /// Writes the OPT record behind all others.
-    fn close(&mut self, opt: &[u8])
-        requires { length self.old.bytes + length opt.now ≤ self.old.room }
-        ensures { self.new ≡ closed opt.now self.old }
+    /// Writes the OPT record behind all others, where the query had one.
+    #[inline(always)]
+    fn close(&mut self, rcode: u16, scope: u8)
+        requires rcode { FitsRcode rcode self.old.edns }
+        requires room { length self.old.bytes + length (opt_octets rcode (opt_of self.old.edns scope))
+            ≤ self.old.room }
+        ensures { self.new ≡ closed (opt_octets rcode (opt_of self.old.edns scope)) self.old }
     {
-        if opt.is_empty() {
-            return;
-        }
-        self.len = append(&mut self.buffer, self.len, opt);
+        self.len = add_opt(&mut self.buffer, self.len, &self.edns, rcode, scope);
     }
 
     /// Drops all records.
