@@ -96,12 +96,41 @@ pub(crate) fn note_roles(
     }
 }
 
+/// Where the policies of sets begin here or before, two octets of each stand among the first 32 of its
+/// set, as those of most groups do.
+const EARLY: usize = 30;
+
 /// The first set of a geolocation group from a place on that may apply to a client of the country of
 /// this number, and none where all of them are for other countries. Where the identifier of a set is
 /// long, it may be for another country too.
-// Nothing is written and nobody asked in this walk, so that where the sets stand is loaded once.
+// Where the policies begin is the same for all sets. It is looked at before the walk, which is compiled for
+// either case, and not set by set.
 #[inline(always)]
 fn next_near(
+    zones: &Zones,
+    group: &Group,
+    slots: &[u32],
+    at: usize,
+    from: usize,
+    country: u32,
+) -> Option<usize>
+    requires group { IsGroupNow zones.now.zones group.now }
+    requires slots { AreMembers zones.now.zones group.now slots.now at }
+    requires within { from ≤ group.now.length }
+    ensures found { IfSome result (λ i. (from ≤ i) × (i < group.now.length)) }
+    ensures passed { (first : Place) → AreForOthers country first
+        (sets_in zones.now.zones group.now) from (unwrap_or result group.now.length) }
+{
+    if at <= EARLY {
+        return walk_to_near(zones, group, slots, at, from, country);
+    }
+    walk_to_near(zones, group, slots, at, from, country)
+}
+
+/// The same, set by set.
+// Nothing is written and nobody asked in this walk, so that where the sets stand is loaded once.
+#[inline(always)]
+fn walk_to_near(
     zones: &Zones,
     group: &Group,
     slots: &[u32],

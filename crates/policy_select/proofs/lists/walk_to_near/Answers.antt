@@ -1,7 +1,7 @@
 use Rattle.std.proofs.Common.{arith}
 use Rattle.policy_select.specs.Groups.{sets_in}
 use Rattle.policy_select.proofs.Nearby.{one_more}
-use Rattle.policy_select.proofs.lists.next_near.Goals as goal
+use Rattle.policy_select.proofs.lists.walk_to_near.Goals as goal
 
 pub loop-i-init : goal.loop-i-init
 loop-i-init c first k low high = absurd (omega (arith, low, high))
