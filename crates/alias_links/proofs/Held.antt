@@ -10,6 +10,8 @@ use Rattle.record_set.specs.Reasons.{IsAlias}
 use Rattle.record_set.specs.declared.sets.Body.{Body}
 use Rattle.record_set.specs.declared.sets.Body.TheVariants as body
 use Rattle.record_set.specs.declared.sets.RecordSet.{RecordSet}
+use Rattle.record_set.specs.declared.sets.SetKey.{SetKey}
+use Rattle.record_set.specs.Sets.{key_of}
 use Rattle.zone_table.specs.Telling.{is_alias, target_in, target_of}
 use Rattle.zone_table.proofs.Members.{in_all}
 use Rattle.zone_table.specs.Zones.{AreZones, StandsAlone, Zone, placed_in}
@@ -133,3 +135,8 @@ held_so P held set e said = subst (λ (h : Option RecordSet). IfSome h P) e said
 pub not_some : {X : Type 0} (o : Option X) → is_some o ≡ false → o ≡ None
 not_some None e = refl
 not_some (Some x) e = absurd (grind (arith, e))
+
+-- the key of the set that is held
+pub key_held : (now : Option RecordSet) (key : SetKey) → IfSome now (λ set. key ≡ key_of set)
+    → (set : RecordSet) → now ≡ Some set → key ≡ key_of set
+key_held now key is set held = subst (λ (o : Option RecordSet). IfSome o (λ s. key ≡ key_of s)) held is

@@ -4,7 +4,7 @@ use Rattle.rdata_layout.specs.declared.types.RType.{RType}
 use Rattle.zone_table.specs.Zones.{Zone}
 use Rattle.zone_table.specs.SetRefRecord.{SetRef}
 use Rattle.zone_table.specs.Looking.{IsGroup, Targets}
-use Rattle.zone_table.specs.declared.refs.Group.{Group}
+use Rattle.zone_table.specs.GroupRecord.{Group}
 
 -- The group is the target group of the set that a reference names: of its target's name and of its
 -- own type.

@@ -12,7 +12,7 @@ ghost use Rattle.alias_links.specs.After.{changed_in, sets_in};
 ghost use Rattle.alias_links.specs.Aliases.{SetIf, aliases_of, is_alias_set, kept_of, stays};
 ghost use Rattle.alias_links.specs.Laws.{IsChange};
 
-use crate::keys::{is_alias, is_key_of, key_in};
+use crate::keys::{is_alias, is_key_of};
 use crate::places::{hold_at, target_at};
 use octets::OutOfMemory;
 use record_set::{Body, RecordSet, SetKey};
@@ -93,7 +93,7 @@ fn kept_at(
         return None;
     }
     hold_at(zones, zone, i, scratch);
-    let key = key_in(scratch);
+    let key = scratch.key();
     if is_key_of(remove, &key) {
         return None;
     }

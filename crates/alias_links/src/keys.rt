@@ -2,9 +2,7 @@
 
 ghost use Rattle.std.specs.Prelude.{◌≡◌, ◌≤◌, ◌<◌, ◌↔◌, ℕ, length, slice_get, true, IsTrue};
 ghost use Rattle.std.specs.Prelude.{Some, IfSome, IfNone};
-ghost use Rattle.record_set.specs.Sets.{ident_of, key_of};
 ghost use Rattle.record_set.specs.declared.sets.RecordSet.{RecordSet};
-ghost use Rattle.zone_table.specs.Holding.{IsHolding};
 ghost use Rattle.zone_table.specs.Changes.{IsKeyOf};
 ghost use Rattle.zone_table.specs.Sets.{IsAmong, is_of_group};
 ghost use Rattle.alias_links.specs.Aliases.{is_alias_set};
@@ -13,8 +11,8 @@ ghost use Rattle.alias_links.specs.Leasts.{IsLesser};
 
 use dns_name::Name;
 use rdata_layout::RType;
-use record_set::{Body, Ident, RecordSet, Routing, SetKey};
-use zone_table::{Scratch, key_cmp, keys_are_ordered};
+use record_set::{Body, RecordSet, SetKey};
+use zone_table::{key_cmp, keys_are_ordered};
 
 /// Whether the key is one of these.
 pub fn is_key_of(keys: &[SetKey], key: &SetKey) -> bool
@@ -51,33 +49,6 @@ pub fn lesser(one: Option<SetKey>, other: Option<SetKey>) -> Option<SetKey>
         return Some(other);
     }
     Some(key)
-}
-
-/// The key of the set that is held.
-pub fn key_in(scratch: &Scratch) -> SetKey
-    requires { IsHolding scratch.now }
-    ensures { (set : RecordSet) → scratch.now ≡ Some set → result ≡ key_of set }
-{
-    SetKey {
-        name: scratch.name(),
-        rtype: scratch.rtype(),
-        ident: ident_of(&scratch.routing()),
-    }
-}
-
-/// The identifier of a routing policy.
-fn ident_of(routing: &Routing) -> Option<Ident>
-    ensures { result ≡ ident_of routing.now }
-{
-    match routing {
-        Routing::Simple => None,
-        Routing::Weighted(ident, _)
-        | Routing::Failover(ident, _)
-        | Routing::Geolocation(ident, _)
-        | Routing::Latency(ident, _)
-        | Routing::Multivalue(ident)
-        | Routing::Cidr(ident, _, _) => Some(*ident),
-    }
 }
 
 /// Whether one of the sets is an alias.

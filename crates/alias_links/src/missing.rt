@@ -10,7 +10,7 @@ ghost use Rattle.alias_links.specs.Laws.{AllLead, IsChange};
 ghost use Rattle.alias_links.specs.Leasts.{LeastOrNone, StaysWithout, TellsIf};
 
 use crate::groups::is_filled;
-use crate::keys::{is_key_of, key_in, lesser};
+use crate::keys::{is_key_of, lesser};
 use crate::places::{hold_at, target_at};
 use record_set::{Body, RecordSet, SetKey};
 use zone_table::{Scratch, Zones};
@@ -99,7 +99,7 @@ fn missing_at(
         return None;
     }
     hold_at(zones, zone, i, scratch);
-    let key = key_in(scratch);
+    let key = scratch.key();
     if is_key_of(remove, &key) {
         return None;
     }

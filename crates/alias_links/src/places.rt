@@ -10,7 +10,7 @@ ghost use Rattle.zone_table.specs.Looking.{IsGroupNow};
 ghost use Rattle.alias_links.specs.After.{sets_in};
 ghost use Rattle.alias_links.specs.Aliases.{is_alias_set};
 
-use crate::keys::{is_key_of, key_in};
+use crate::keys::is_key_of;
 use dns_name::Name;
 use rdata_layout::RType;
 use record_set::SetKey;
@@ -60,7 +60,7 @@ pub fn stays_at(
         → IsTrue result ↔ (IsKeyOf remove.now (key_of set) → ⊥) }
 {
     hold_member(zones, group, i, scratch);
-    !is_key_of(remove, &key_in(scratch))
+    !is_key_of(remove, &scratch.key())
 }
 
 /// Whether the set at a place of a group is an alias.

@@ -58,7 +58,7 @@ fn prefix_at(address: IpAddress, bytes: &[u8]) -> Result<(IpPrefix, &[u8]), Faul
 }
 
 /// A block, as an item of a list.
-pub(crate) struct OneBlock;
+pub struct OneBlock;
 
 impl Field for OneBlock {
     type Value = IpPrefix;

@@ -19,7 +19,7 @@ impl Alphabet for OfNames {
 }
 
 /// The name of a collection behind its length.
-pub(crate) fn name_at(bytes: &[u8]) -> Result<(Ident, &[u8]), Fault>
+pub fn name_at(bytes: &[u8]) -> Result<(Ident, &[u8]), Fault>
     ensures { Gives (λ x. (x.0, x.1.now)) result (name_at bytes.now) }
 {
     let (text, rest) = text_at::<OfNames>(64, bytes)?;
@@ -30,7 +30,7 @@ pub(crate) fn name_at(bytes: &[u8]) -> Result<(Ident, &[u8]), Fault>
 }
 
 /// The name of a location behind its length.
-pub(crate) fn location_at(bytes: &[u8]) -> Result<(Ident, &[u8]), Fault>
+pub fn location_at(bytes: &[u8]) -> Result<(Ident, &[u8]), Fault>
     ensures { Gives (λ x. (x.0, x.1.now)) result (location_at bytes.now) }
 {
     let (text, rest) = text_at::<OfNames>(16, bytes)?;

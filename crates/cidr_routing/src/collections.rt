@@ -19,11 +19,21 @@ use std::alloc::Global;
 use std::marker::Model;
 
 /// The collections of a config, and the number that the next one gets.
-#[derive(Drop)]
 pub struct Collections {
     next: u32,
     list: Vec<(u32, Collection)>,
     tables: Vec<IpTable<Ident>>,
+}
+
+/// Written out, so that what drops collections takes one step, and not one for each of their parts.
+impl Drop for Collections {
+    fn drop(self) {
+        let Collections {
+            next: _,
+            list: _,
+            tables: _,
+        } = self;
+    }
 }
 
 impl Model for Collections {

@@ -3,9 +3,8 @@
 ghost use Rattle.std.specs.Prelude.{◌≡◌, ◌≤◌, ◌<◌, ◌-◌, ◌+◌, ℕ, Some, length, slice_get};
 ghost use Rattle.std.specs.Option.{option_map};
 ghost use Rattle.page_laws.specs.Laws.{IsAsked};
-ghost use Rattle.record_set.specs.Sets.{ident_of, key_of};
+ghost use Rattle.record_set.specs.Sets.{key_of};
 ghost use Rattle.record_set.specs.declared.sets.RecordSet.{RecordSet};
-ghost use Rattle.set_scratch.specs.Holding.{IsHolding};
 ghost use Rattle.set_search.specs.Found.{IsBracket, IsCount};
 ghost use Rattle.set_search.specs.declared.bounds.Bound.TheVariants.{From};
 ghost use Rattle.config_zones.specs.Zones.{placed_in};
@@ -16,7 +15,6 @@ use config_zones::{Scratch, Zones, hold_at};
 use page_laws::starts_are_places;
 use rdata_layout::RType;
 use record_set::SetKey;
-use routing::{Ident, Routing};
 use zone_lines::ListOfSets;
 use zone_model::key_cmp;
 
@@ -99,7 +97,7 @@ fn comes_before(zones: &Zones, zone: u32, key: &SetKey, place: usize, scratch: &
         → result ≡ comes_before key.now set }
 {
     hold_at(zones, zone, place, scratch);
-    key_cmp(&key_in(scratch), key).is_lt()
+    key_cmp(&scratch.key(), key).is_lt()
 }
 
 /// The key of the set at a place. None where there are no more sets.
@@ -115,32 +113,5 @@ pub(crate) fn key_at(
         return None;
     }
     hold_at(zones, zone, place, scratch);
-    Some(key_in(scratch))
-}
-
-/// The key of the set that is held.
-fn key_in(scratch: &Scratch) -> SetKey
-    requires { IsHolding scratch.now }
-    ensures { (set : RecordSet) → scratch.now ≡ Some set → result ≡ key_of set }
-{
-    SetKey {
-        name: scratch.name(),
-        rtype: scratch.rtype(),
-        ident: ident_of(&scratch.routing()),
-    }
-}
-
-/// The identifier of a routing policy.
-fn ident_of(routing: &Routing) -> Option<Ident>
-    ensures { result ≡ ident_of routing.now }
-{
-    match routing {
-        Routing::Simple => None,
-        Routing::Weighted(ident, _)
-        | Routing::Failover(ident, _)
-        | Routing::Geolocation(ident, _)
-        | Routing::Latency(ident, _)
-        | Routing::Multivalue(ident)
-        | Routing::Cidr(ident, _, _) => Some(*ident),
-    }
+    Some(scratch.key())
 }

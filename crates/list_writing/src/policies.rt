@@ -15,6 +15,7 @@ ghost use Rattle.serde_json.specs.Data.{string};
 ghost use Rattle.serde_json.specs.Written.{compact_text};
 
 use json_text::{put, put_number, put_quoted};
+use record_set::ident_of;
 use reply_words::put_id;
 use routing::{Continent, Place, Role, Routing};
 
@@ -71,14 +72,9 @@ pub(crate) fn put_ident_of(policy: &Routing, into: &mut Vec<u8>)
     ensures len { vec_len into.new ≤ vec_len into.old + 800 }
     ensures room { vec_capacity into.old ≤ vec_capacity into.new }
 {
-    match policy {
-        Routing::Simple => {}
-        Routing::Weighted(ident, _)
-        | Routing::Failover(ident, _)
-        | Routing::Geolocation(ident, _)
-        | Routing::Latency(ident, _)
-        | Routing::Multivalue(ident)
-        | Routing::Cidr(ident, _, _) => put_ident(ident.bytes(), into),
+    match ident_of(policy) {
+        Some(ident) => put_ident(ident.bytes(), into),
+        None => {}
     }
 }
 

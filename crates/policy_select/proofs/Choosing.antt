@@ -23,7 +23,7 @@ use Rattle.zone_table.specs.Zones.{Zone}
 use Rattle.zone_table.specs.SetRefRecord.{SetRef}
 use Rattle.zone_table.specs.Slotted.{Slotted}
 use Rattle.zone_table.specs.Looking.{IsGroupNow}
-use Rattle.zone_table.specs.declared.refs.Group.{Group}
+use Rattle.zone_table.specs.GroupRecord.{Group}
 use Rattle.policy_select.specs.declared.selection.Selected.{Selected}
 use Rattle.policy_select.specs.Groups.{flags_in, members_of, sets_in}
 use Rattle.policy_select.specs.Rules.{IsOf}

@@ -16,7 +16,7 @@ use Rattle.zone_table.specs.Zones.{Zone, placed_in}
 use Rattle.zone_table.specs.SetRefRecord.{SetRef}
 use Rattle.zone_table.specs.Sets.{IsAmong, target_group}
 use Rattle.zone_table.specs.Slotted.{Slotted}
-use Rattle.zone_table.specs.declared.refs.Group.{Group}
+use Rattle.zone_table.specs.GroupRecord.{Group}
 use Rattle.answer_model.specs.declared.used.Used.{Used}
 use Rattle.answer_model.specs.Clients.{Client}
 use Rattle.answer_model.specs.Descent.{Choices, Descended, Means, by_body, by_choice, descends}

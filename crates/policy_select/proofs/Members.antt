@@ -23,7 +23,7 @@ use Rattle.zone_table.specs.Keys.{key_cmp}
 use Rattle.zone_table.specs.Sets.{IsAmong, IsRising}
 use Rattle.zone_table.specs.Slotted.{HaveOwnSlots, Slotted, sets_of}
 use Rattle.zone_table.specs.Looking.{IsSetOfGroup, RefersTo}
-use Rattle.zone_table.specs.declared.refs.Group.{Group}
+use Rattle.zone_table.specs.GroupRecord.{Group}
 use Rattle.policy_select.specs.Groups.{ViewsAgree, members_of, said_of, sets_in}
 
 module _ {X : Type 0} where

@@ -12,7 +12,7 @@ use Rattle.routing.specs.declared.policies.Routing.{Routing}
 use Rattle.zone_table.specs.Zones.{Zone, placed_in}
 use Rattle.zone_table.proofs.Lists.{take_more}
 use Rattle.zone_table.specs.Slotted.{Slotted}
-use Rattle.zone_table.specs.declared.refs.Group.{Group}
+use Rattle.zone_table.specs.GroupRecord.{Group}
 use Rattle.policy_select.specs.Groups.{members_of, sets_in}
 use Rattle.policy_select.specs.Rules.{FirstSays}
 

@@ -27,7 +27,7 @@ use Rattle.zone_table.specs.SetRefRecord.{SetRef}
 use Rattle.zone_table.specs.Sets.{IsAmong, group, is_of_group}
 use Rattle.zone_table.specs.Spelling.{IsPart, from_policy}
 use Rattle.zone_table.specs.Zones.{Zone, placed_in}
-use Rattle.zone_table.specs.declared.refs.Group.{Group}
+use Rattle.zone_table.specs.GroupRecord.{Group}
 use Rattle.policy_select.specs.Groups.{flags_in, members_of, sets_in, sets_in_zone}
 use Rattle.policy_select.specs.Members.{PoliciesAreAt}
 use Rattle.policy_select.proofs.Members.{got_of_drop, got_of_take}

@@ -22,7 +22,7 @@ use Rattle.zone_table.specs.Zones.{Zone, placed_in}
 use Rattle.zone_table.specs.Sets.{IsAmong, group, is_of_group, target_group_of}
 use Rattle.zone_table.specs.Slotted.{Slotted}
 use Rattle.zone_table.specs.Looking.{IsGroup, IsGroupNow}
-use Rattle.zone_table.specs.declared.refs.Group.{Group}
+use Rattle.zone_table.specs.GroupRecord.{Group}
 use Rattle.answer_model.specs.Descent.{sets_at}
 use Rattle.policy_select.specs.declared.selection.Selected.TheVariants.{Sets}
 use Rattle.policy_select.specs.Groups.{sets_in, sets_in_zone}

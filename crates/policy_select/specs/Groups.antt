@@ -13,7 +13,7 @@ use Rattle.zone_table.specs.Keys.{key_cmp}
 use Rattle.zone_table.specs.Slotted.{Slotted, sets_of}
 use Rattle.zone_table.specs.Sets.{IsAmong, group}
 use Rattle.zone_table.specs.Looking.{RefersTo}
-use Rattle.zone_table.specs.declared.refs.Group.{Group}
+use Rattle.zone_table.specs.GroupRecord.{Group}
 
 -- the sets of the zone with a number
 abbrev pub sets_in_zone : List Zone → ℕ → List RecordSet

@@ -11,7 +11,7 @@ pub use Rattle.zone_table.specs.Looking
 pub use Rattle.zone_table.specs.FoundZones as Found
 pub use Rattle.zone_table.specs.SetRefRecord
 pub use Rattle.zone_table.specs.Zones
-pub use Rattle.zone_table.specs.declared.refs.Group as GroupRecord
+pub use Rattle.zone_table.specs.GroupRecord
 pub use Rattle.answer_model.specs.Laws
 pub use Rattle.answer_model.specs.Names
 pub use Rattle.answer_model.specs.Sections

@@ -7,7 +7,7 @@ use Rattle.zone_table.specs.RecordSetRecord.{RecordSet}
 use Rattle.zone_table.specs.Sets.{IsAmong}
 use Rattle.zone_table.specs.SetsOfSetReading.{IsRouting}
 use Rattle.zone_table.specs.Zones.{Zone}
-use Rattle.zone_table.specs.declared.refs.Group.{Group}
+use Rattle.zone_table.specs.GroupRecord.{Group}
 use Rattle.policy_select.specs.Groups.{sets_in}
 
 -- The policy of each set stands at this place among its octets.

@@ -12,7 +12,7 @@ use Rattle.zone_table.specs.SetKeyRecord.{SetKey}
 use Rattle.zone_table.specs.Zones.{Zone}
 use Rattle.zone_table.specs.Sets.{target_group}
 use Rattle.zone_table.specs.Looking.{IsGroupNow}
-use Rattle.zone_table.specs.declared.refs.Group.{Group}
+use Rattle.zone_table.specs.GroupRecord.{Group}
 use Rattle.answer_model.specs.declared.used.Used.{Used}
 use Rattle.answer_model.specs.Clients.{Client}
 use Rattle.answer_model.specs.Descent.{Choices, Descended, Means, descend, sets_at}

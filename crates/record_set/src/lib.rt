@@ -20,5 +20,5 @@ pub use routing::{
     is_printable, is_region_byte, is_subdivision_byte,
 };
 pub use sameness::same;
-pub use sets::{Body, RecordSet, SetKey};
+pub use sets::{Body, RecordSet, SetKey, ident_of};
 pub use values::Values;

@@ -1,6 +1,7 @@
 //! A record set, what it answers, and what names it within its zone.
 
 ghost use Rattle.std.specs.Prelude.{◌≡◌, IfOk};
+ghost use Rattle.std.specs.Option.{option_copied};
 ghost use Rattle.record_set.specs.Sets.{ident_of, key_of};
 
 use crate::values::Values;
@@ -53,7 +54,7 @@ impl RecordSet {
         SetKey {
             name: self.name,
             rtype: self.rtype,
-            ident: ident_of(&self.routing),
+            ident: ident_of(&self.routing).copied(),
         }
     }
 
@@ -90,9 +91,9 @@ impl Body {
     }
 }
 
-/// The identifier of a routing policy.
-fn ident_of(routing: &Routing) -> Option<Ident>
-    ensures { result ≡ ident_of routing.now }
+/// The identifier of a routing policy. None for a simple one.
+pub fn ident_of(routing: &Routing) -> Option<&Ident>
+    ensures { option_copied result ≡ ident_of routing.now }
 {
     match routing {
         Routing::Simple => None,
@@ -101,6 +102,6 @@ fn ident_of(routing: &Routing) -> Option<Ident>
         | Routing::Geolocation(ident, _)
         | Routing::Latency(ident, _)
         | Routing::Multivalue(ident)
-        | Routing::Cidr(ident, _, _) => Some(*ident),
+        | Routing::Cidr(ident, _, _) => Some(ident),
     }
 }

@@ -19,6 +19,6 @@ pub use octet_reading::{
 };
 pub use set_octets::{
     Body, MOST_OCTETS, Place, RData, Reason, RecordSet, Routing, SetKey, Values, WireFault,
-    fill_set, has_spelling, set_len,
+    fill_set, has_spelling, ident_of, set_len,
 };
 pub use texts::{country_at, ident_at, location_at, region_at, sub_at};

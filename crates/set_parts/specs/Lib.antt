@@ -8,6 +8,8 @@ pub use Rattle.set_reading.specs.Octets
 pub use Rattle.set_reading.specs.Values
 pub use Rattle.set_reading.specs.BodyRecord
 pub use Rattle.set_reading.specs.RecordSetRecord
+pub use Rattle.set_reading.specs.SetsOfRecordSet
+pub use Rattle.set_reading.specs.SetKeyRecord
 pub use Rattle.set_reading.specs.Datum
 pub use Rattle.set_reading.specs.Layout
 pub use Rattle.set_reading.specs.Types

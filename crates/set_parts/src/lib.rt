@@ -15,7 +15,8 @@ pub use heads::{
 pub use laws::keys_are_in_front;
 pub use passing::{behind_check, behind_name, behind_place, behind_policy, behind_text, past};
 pub use set_reading::{
-    MOST_OCTETS, Name, RType, ReadFault, RecordSet, Routing, base_fields_are_read, check_at,
-    fields_are_read, fill_set, flag_at, has_spelling, name_at, one_spelling, parts, parts_are_read,
-    read_set, region_at, routing_at, set_len, sub_at, two_at, well_formed, written_reads_back,
+    MOST_OCTETS, Name, RType, ReadFault, RecordSet, Routing, SetKey, base_fields_are_read,
+    check_at, fields_are_read, fill_set, flag_at, has_spelling, ident_of, name_at, one_spelling,
+    parts, parts_are_read, read_set, region_at, routing_at, set_len, sub_at, two_at, well_formed,
+    written_reads_back,
 };

@@ -15,7 +15,7 @@ pub use reading::{check_at, read_set, routing_at};
 pub use set_fields::{
     Body, Fault, Field, MOST_OCTETS, Name, RData, RType, Reason, RecordSet, Routing, SetKey, Stop,
     Values, WireFault, base_fields_are_read, fields_are_read, fill_set, flag_at, four_at,
-    has_spelling, list_at, name_at, octet_at, one_name_of_a_wire, parts, region_at, set_len,
-    sub_at, two_at, type_at,
+    has_spelling, ident_of, list_at, name_at, octet_at, one_name_of_a_wire, parts, region_at,
+    set_len, sub_at, two_at, type_at,
 };
 pub use sets::well_formed;

@@ -6,6 +6,7 @@ ghost use Rattle.std.specs.FinMap as map;
 ghost use Rattle.set_parts.specs.Names.{AreOctets};
 ghost use Rattle.set_parts.specs.Layout.{IsLayout};
 ghost use Rattle.set_parts.specs.RecordSetRecord.{RecordSet};
+ghost use Rattle.set_parts.specs.SetsOfRecordSet.{key_of};
 ghost use Rattle.set_parts.specs.Octets.{HasSpelling, check_octets, most_octets, set_octets};
 ghost use Rattle.set_scratch.specs.Bodies.{alias_of, ttl_of, values_of, wires_of};
 ghost use Rattle.set_scratch.specs.Holding.{HasValue, IsHolding};
@@ -18,7 +19,8 @@ use crate::places::{Places, find_parts};
 use octet_region::{Handle, Region};
 use octets::{OutOfMemory, behind, front, zeros};
 use set_parts::{
-    MOST_OCTETS, Name, RType, RecordSet, Routing, fill_set, well_formed, written_reads_back,
+    MOST_OCTETS, Name, RType, RecordSet, Routing, SetKey, fill_set, ident_of, well_formed,
+    written_reads_back,
 };
 use std::alloc::Global;
 use std::marker::Model;
@@ -122,6 +124,18 @@ impl Scratch {
         ensures { IfSome self.now (λ set. result ≡ set.routing) }
     {
         routing_in(self.policy())
+    }
+
+    /// What names the set.
+    pub fn key(&self) -> SetKey
+        requires { IsHolding self.now }
+        ensures { IfSome self.now (λ set. result ≡ key_of set) }
+    {
+        SetKey {
+            name: self.name(),
+            rtype: self.rtype(),
+            ident: ident_of(&self.routing()).copied(),
+        }
     }
 
     /// The number of the health check that the set names.

@@ -4,8 +4,7 @@ ghost use Rattle.octet_reading.specs.Reading.{GivesOrStops};
 ghost use Rattle.snapshot_octets.specs.Reading.{collection_at, numbered_collection_at, location_at};
 ghost use Rattle.snapshot_reading.specs.Parts.{collections_at};
 
-use crate::blocks::OneBlock;
-use crate::names::{location_name_at, name_at};
+use block_reading::OneBlock;
 use cidr_blocks::{Blocks, CidrLocation, Collection, Locations};
 use octet_reading::{Fault, Field, Stop, four_at, list_at};
 use std::alloc::Global;
@@ -64,7 +63,7 @@ fn held_collection_at(alloc: Global, bytes: &[u8]) -> Result<((u32, Collection),
 fn collection_at(alloc: Global, bytes: &[u8]) -> Result<(Collection, &[u8]), Stop>
     ensures { GivesOrStops (λ x. (x.0, x.1.now)) result (collection_at bytes.now) }
 {
-    let (name, rest) = match name_at(bytes) {
+    let (name, rest) = match block_reading::name_at(bytes) {
         Ok(read) => read,
         Err(Fault(left)) => return Err(Stop::Bad(left)),
     };
@@ -96,7 +95,7 @@ impl Field for OneLocation {
 fn location_at(alloc: Global, bytes: &[u8]) -> Result<(CidrLocation, &[u8]), Stop>
     ensures { GivesOrStops (λ x. (x.0, x.1.now)) result (location_at bytes.now) }
 {
-    let (name, rest) = match location_name_at(bytes) {
+    let (name, rest) = match block_reading::location_at(bytes) {
         Ok(read) => read,
         Err(Fault(left)) => return Err(Stop::Bad(left)),
     };

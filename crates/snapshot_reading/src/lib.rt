@@ -4,13 +4,11 @@
 //! The caller knows how many zones follow, and that nothing may stand behind the last one.
 #![tactic(auto)]
 
-mod blocks;
 mod checks;
 mod collections;
 mod faults;
 mod fronts;
 mod laws;
-mod names;
 mod places;
 mod zones;
 

@@ -57,11 +57,7 @@ pub fn come_all(
         of_zone(store, zone, order);
         added.push_reserved(SetRef { zone, slot });
         let cell = store.cell_of(slot);
-        if order.len() > before {
-            note(hints, set, near, cell, order.len());
-        } else {
-            hints.gave_way(set.name.octets(), cell);
-        }
+        tell(hints, set, near, cell, before, order.len());
     }
 }
 
@@ -73,6 +69,23 @@ fn place_of_first(hints: &Hints, sets: &[RecordSet]) -> Option<usize> {
             None => hints.find_beside(set.name.octets()),
         },
         None => None,
+    }
+}
+
+/// Tells hints of a set that came into a cell, where so many sets were before and so many are now:
+/// in front of a place, or where there are no more in place of the one with its key.
+fn tell(
+    hints: &mut Hints,
+    set: &RecordSet,
+    behind: Option<usize>,
+    cell: u32,
+    before: usize,
+    count: usize,
+) {
+    if count > before {
+        note(hints, set, behind, cell, count);
+    } else {
+        hints.gave_way(set.name.octets(), cell);
     }
 }
 

@@ -7,8 +7,8 @@ mod laws;
 mod order;
 
 pub use laws::{keys_are_ordered, placed_rise};
-pub use order::key_cmp;
+pub use order::{ident_cmp, key_cmp};
 pub use record_set::{
-    Body, Ident, Name, RType, Reason, RecordSet, Routing, SetKey, octets_cmp, one_name_of_a_wire,
-    same,
+    Body, Ident, Name, RType, Reason, RecordSet, Routing, SetKey, ident_of, octets_cmp,
+    one_name_of_a_wire, same,
 };

@@ -2,6 +2,7 @@
 
 ghost use Rattle.std.specs.Prelude.{◌≡◌};
 ghost use Rattle.std.specs.Cmp.Lexicographic.{slice_cmp};
+ghost use Rattle.std.specs.Option.{option_copied};
 ghost use Rattle.std.specs.Ordering.{nat_cmp};
 ghost use Rattle.zone_model.specs.Keys.{ident_cmp, key_cmp};
 
@@ -16,14 +17,14 @@ pub fn key_cmp(x: &SetKey, y: &SetKey) -> Ordering
     x.name
         .cmp(&y.name)
         .then(x.rtype.number().cmp(&y.rtype.number()))
-        .then(ident_cmp(&x.ident, &y.ident))
+        .then(ident_cmp(x.ident.as_ref(), y.ident.as_ref()))
 }
 
-/// The order of two identifiers.
-fn ident_cmp(x: &Option<Ident>, y: &Option<Ident>) -> Ordering
-    ensures { result ≡ ident_cmp x.now y.now }
+/// The order of two identifiers: by their bytes, none first.
+pub fn ident_cmp(ident: Option<&Ident>, other: Option<&Ident>) -> Ordering
+    ensures { result ≡ ident_cmp (option_copied ident.entry) (option_copied other.entry) }
 {
-    match (x, y) {
+    match (ident, other) {
         (None, None) => Ordering::Equal,
         (None, Some(_)) => Ordering::Less,
         (Some(_), None) => Ordering::Greater,

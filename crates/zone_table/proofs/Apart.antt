@@ -10,8 +10,8 @@ use Rattle.zone_list.proofs.Slots.{its_kept}
 use Rattle.zone_list.specs.Kept.{AreIntact, Listed, zone_in, zones_in}
 use Rattle.zone_list.specs.Zones.{Zone}
 use Rattle.zone_table.specs.Tables.{HaveSlotsApart, HaveSlotsBelow}
-use Rattle.zone_table.proofs.Looked.{placed_set}
-use Rattle.zone_table.proofs.Naming.{of_map, stands_here}
+use Rattle.zone_finding.proofs.Looked.{placed_set}
+use Rattle.zone_finding.proofs.Naming.{of_map, stands_here}
 
 module _ (slots : List (Option Kept)) (list : List Listed) (kept : AreIntact slots list) where
   -- a set of a zone is kept in its slot

@@ -11,8 +11,8 @@ use Rattle.zone_table.specs.declared.edits.ZoneEdit.TheVariants as edit
 use Rattle.zone_table.specs.declared.refs.Delta.{Delta}
 use Rattle.zone_table.specs.Apexes.{KnowsNames, Notes}
 use Rattle.zone_table.specs.Edits.{Edits, IsAllowed, zone_of}
-use Rattle.zone_table.specs.Looking.{IsZoneForOrNone, IsApex}
-use Rattle.zone_list.proofs.Listing.{one_zone}
+use Rattle.zone_finding.specs.Looking.{IsZoneForOrNone, IsApex}
+use Rattle.zone_finding.proofs.Naming.{one_name}
 
 -- the zone of the longest name that is known
 pub held : (list : List NamedZone) (zones : List Zone) (name : List (List ℕ)) (found : Option ℕ)
@@ -54,13 +54,6 @@ module _ (before after : List Zone) (made : ZoneEdit) (delta : Delta)
     (λ x. (x.0, (edits.others x.0 (λ e. apart (sym x.2 ∙ e))).0 x.1, x.2, x.3)),
     λ x. (x.0, (edits.others x.0 (λ e. apart (sym x.2 ∙ e))).1 x.1, x.2, x.3),
   )
-
--- a zone has one name
-pub one_name : (zones : List Zone) → AreListed zones → (id other : ℕ) (name other_name : List (List ℕ))
-    → id ≡ other → IsApex zones id name → IsApex zones other other_name → name ≡ other_name
-one_name zones listed id other name other_name e x y =
-    sym x.3
-    ∙ (ap (λ (z : Zone). z.apex) (one_zone zones listed x.0 y.0 x.1 y.1 (x.2 ∙ (e ∙ sym y.2))) ∙ y.3)
 
 -- ---- through each edit
 

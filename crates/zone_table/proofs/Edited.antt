@@ -13,7 +13,7 @@ use Rattle.zone_list.proofs.Members.{in_all, put_or_in}
 use Rattle.zone_table.specs.declared.edits.ZoneEdit.{ZoneEdit}
 use Rattle.zone_table.specs.declared.edits.ZoneEdit.TheVariants as edit
 use Rattle.zone_table.specs.Edits.{Edits, IsAllowed}
-use Rattle.zone_table.specs.Looking.{IsApex}
+use Rattle.zone_finding.specs.Looking.{IsApex}
 
 -- the order of two zones in the list
 abbrev pub Before : Zone → Zone → Type 0

@@ -1,18 +1,11 @@
 pub mod Apexes
 pub mod Apart
-pub mod Cuts
 pub mod Edited
-pub mod GroupSlots
-pub mod Holding
 pub mod Kept
-pub mod Looked
-pub mod Naming
 pub mod Once
 pub mod Opening
 pub mod Rooms
 pub mod Sizes
-pub mod Stars
-pub mod Totals
 pub use Rattle.zone_list.proofs.Listing
 pub use Rattle.zone_list.proofs.Members
 pub use Rattle.zone_list.proofs.Coming
@@ -23,3 +16,6 @@ pub use Rattle.zone_list.proofs.Ordered
 pub use Rattle.zone_list.proofs.ListsOfZoneModel as Lists
 pub use Rattle.zone_list.proofs.Places
 pub use Rattle.zone_list.proofs.Below
+pub use Rattle.zone_finding.proofs.Holding
+pub use Rattle.zone_finding.proofs.Looked
+pub use Rattle.zone_finding.proofs.Naming

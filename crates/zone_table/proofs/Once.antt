@@ -19,7 +19,7 @@ use Rattle.zone_table.specs.declared.edits.ZoneEdit.TheVariants as edit
 use Rattle.zone_table.specs.declared.refs.Delta.{Delta}
 use Rattle.zone_table.specs.Edits.{Edits, IsAllowed, Makes, zone_of}
 use Rattle.zone_table.specs.Laws.{OneApex, OneEdit}
-use Rattle.zone_table.specs.Looking.{IsApex}
+use Rattle.zone_finding.specs.Looking.{IsApex}
 
 -- ---- lists of zones
 

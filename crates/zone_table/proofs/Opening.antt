@@ -1,7 +1,7 @@
 -- A zone that is opened.
 use Rattle.std.proofs.Common.{◌≡◌, ◌≢◌, ◌<◌, ◌≤◌, ℕ, List, [], ◌∷◌, ◌++◌, take, drop, ap, ◌∙◌, sym, Option, Some, subst, arith, inl, inr}
 use Rattle.std.specs.Prelude.{slice_get}
-use Rattle.std.specs.List.{AllByRecursion, take-map}
+use Rattle.std.specs.List.{AllByRecursion, insert, take-map}
 use Rattle.std.proofs.lemmas.Bool.{cases_eq}
 use Rattle.std.proofs.lemmas.List.{map-append}
 use Rattle.zone_list.specs.RecordSetRecord.{RecordSet}
@@ -10,16 +10,18 @@ use Rattle.zone_list.specs.SetsOfRecordSet.{key_of}
 use Rattle.zone_list.specs.Placing.{IsThere}
 use Rattle.zone_list.proofs.Among.{among_at}
 use Rattle.zone_list.proofs.ListsOfZoneModel.{drop_map, split}
-use Rattle.zone_list.specs.Orders.{IsOrder, slotted_of}
-use Rattle.zone_list.specs.Changes.{CanBeAdded, CanChange, IsKeyOf}
+use Rattle.zone_list.specs.Orders.{IsOrder, OthersStay, slotted_of}
+use Rattle.zone_list.specs.Changes.{CanBeAdded, CanChange, Changes, IsKeyOf}
 use Rattle.zone_list.specs.Found.{IsSplit}
 use Rattle.zone_list.specs.Sums.{sums_of}
 use Rattle.zone_list.specs.Kept.{AreIntact, HasId, Listed, named, named_of, IsIntact, zone_in, zones_in}
 use Rattle.zone_list.specs.Zones.{AreListed, CanStand, IsOne, Zone}
 use Rattle.zone_table.specs.declared.edits.ZoneEdit.TheVariants as edit
-use Rattle.zone_table.specs.Edits.{IsAllowed}
-use Rattle.zone_table.proofs.Edited.{all_back, all_front, Before, listed_put}
-use Rattle.zone_table.proofs.Naming.{in_map, of_map, one_with}
+use Rattle.zone_list.specs.declared.refs.SetRef.{SetRef}
+use Rattle.zone_table.specs.Edits.{Edits, IsAllowed}
+use Rattle.zone_table.proofs.Edited.{all_back, all_front, Before, listed_put, opened_edits}
+use Rattle.zone_table.proofs.Kept.{changed_stands, opened_kept, opened_zones, part_zones}
+use Rattle.zone_finding.proofs.Naming.{in_map, of_map, one_with, with_sets}
 
 -- no set is of a zone that isn't there
 pub empty_order : (slots : List (Option Kept)) (list : List Listed) → AreIntact slots list → (id : ℕ)
@@ -98,3 +100,62 @@ module _ (slots : List (Option Kept)) (list : List Listed) (n : ℕ) (k : Listed
       ∙ ap (λ zs. take n all ++ named k ∷ zs) (sym (drop_map named n list)))))
       (listed_put (take n all) (drop n all) (named k) (subst AreListed (split n all) listed)
       (all_front (λ x. Before x (named k)) all n low) (all_back (Before (named k)) all n high))
+
+-- ---- once it is opened
+
+module _ (slots now : List (Option Kept)) (list : List Listed) (n : ℕ) (was k : Listed)
+    (sets : List RecordSet) (removed added : List SetRef) (kept : AreIntact slots list)
+    (allowed : IsAllowed (zones_in slots list) (edit.Begin was.id was.apex sets))
+    (empty : was.order ≡ []) (none : was.sums ≡ sums_of [])
+    (id : k.id ≡ was.id) (apex : k.apex ≡ was.apex) (order : IsOrder now k.id k.order)
+    (changes : Changes was.id (slotted_of slots was.id was.order) [] sets removed added
+    (slotted_of now k.id k.order))
+    (others : OthersStay was.id slots now) (sums : k.sums ≡ sums_of (slotted_of now k.id k.order))
+    (place : IsSplit (named_of list) was.id n n) where
+  allowed_now : IsAllowed (zones_in slots list) (edit.Begin k.id k.apex sets)
+  allowed_now =
+      subst (λ (i : ℕ). IsAllowed (zones_in slots list) (edit.Begin i k.apex sets)) (sym id)
+      (subst (λ (a : List (List ℕ)). IsAllowed (zones_in slots list) (edit.Begin was.id a sets)) (sym apex)
+      allowed)
+
+  others_now : OthersStay k.id slots now
+  others_now = subst (λ (i : ℕ). OthersStay i slots now) (sym id) others
+
+  place_now : IsSplit (named_of list) k.id n n
+  place_now = subst (λ (i : ℕ). IsSplit (named_of list) i n n) (sym id) place
+
+  stands_now : IsIntact now k
+  stands_now =
+      changed_stands slots now was k apex order [] sets removed added changes
+      (stands_empty slots list kept was empty none allowed.3
+      (λ is. allowed.0 (one_with slots list was.id is))) allowed.2.each sums id
+
+  new : HasId list k.id → ⊥
+  new = new_id slots list n k sets kept.listed place_now allowed_now
+
+  listed_now : AreListed (named_of (take n list ++ k ∷ drop n list))
+  listed_now = listed_with slots list n k sets kept.listed place_now allowed_now
+
+  pub kept_so : AreIntact now (insert list n k)
+  kept_so = opened_kept slots now list n k kept others_now new stands_now listed_now
+
+  pub edits_so : Edits (zones_in slots list) (edit.Begin was.id was.apex sets)
+      (zones_in now (insert list n k)) (record { zone = was.id; removed = removed; added = added })
+  edits_so =
+      let from_none : Changes was.id [] [] sets removed added (slotted_of now k.id k.order) =
+      subst (λ (o : List ℕ). Changes was.id (slotted_of slots was.id o) [] sets removed added
+      (slotted_of now k.id k.order)) empty changes in
+      let edits : Edits (zones_in slots list) (edit.Begin k.id k.apex sets)
+      (zones_in now (insert list n k)) (record { zone = k.id; removed = removed; added = added }) =
+      opened_edits (zones_in slots list) (zones_in now (insert list n k)) (zones_in slots (take n list))
+      (zones_in slots (drop n list)) (zone_in now k)
+      (part_zones slots now list n k kept others_now new stands_now listed_now)
+      (opened_zones slots now list n k kept others_now new stands_now listed_now)
+      (with_sets now (insert list n k) kept_so.listed) sets removed added
+      (subst (λ (i : ℕ). Changes i [] [] sets removed added (slotted_of now k.id k.order)) (sym id)
+      from_none) in
+      subst (λ (i : ℕ). Edits (zones_in slots list) (edit.Begin i was.apex sets)
+      (zones_in now (insert list n k)) (record { zone = i; removed = removed; added = added })) id
+      (subst (λ (a : List (List ℕ)). Edits (zones_in slots list) (edit.Begin k.id a sets)
+      (zones_in now (insert list n k)) (record { zone = k.id; removed = removed; added = added })) apex
+      edits)

@@ -1,7 +1,8 @@
 -- Room for edits, taken and kept.
-use Rattle.std.proofs.Common.{◌≡◌, ◌≢◌, ◌≤◌, ◌<◌, ◌-◌, ℕ, zero, suc, List, [], ◌∷◌, length, map, set, ap, ◌∙◌, sym, refl, Option, Some, Vec, subst, arith, inl, inr}
+use Rattle.std.proofs.Common.{◌≡◌, ◌≢◌, ◌≤◌, ◌<◌, ◌+◌, ◌-◌, ◌%◌, ◌^◌, ℕ, zero, suc, List, [], ◌∷◌, length, map, set, ap, ◌∙◌, sym, refl, Option, Some, Vec, subst, arith, inl, inr}
 use Rattle.std.specs.Prelude.{◌⊎◌, IfOk, OnOk, Result, Ok, Err, slice_get, slice_set, vec_capacity}
-use Rattle.std.specs.List.{AllByRecursion}
+use Rattle.std.specs.List.{AllByRecursion, sum_by}
+use Rattle.std.proofs.lemmas.List.Sums.{sum_by-cons}
 use Rattle.std.specs.declared.alloc.Global.{Global}
 use Rattle.std.proofs.lemmas.Bool.{cases_eq}
 use Rattle.zone_list.specs.RecordSetRecord.{RecordSet}
@@ -21,7 +22,8 @@ use Rattle.zone_table.specs.declared.needs.Need.{Need}
 use Rattle.zone_table.specs.Edits.{HasRoom, HasRoomFor, HasRoomIn, IsAllowed, IsReady, Prepared, StayReady}
 use Rattle.zone_table.specs.Needs.{NeedsFor, AreSpelled, CanTake, NeedsOfEdit, HasRoomToAdd, IsPrepared, IsReadyFor, IsRoomFor, KeepsRoom, NeedsNone, ZoneButRoom, zone_but_room, same_rows}
 use Rattle.zone_table.specs.Tables.{Table}
-use Rattle.zone_table.proofs.Naming.{in_map, map_at, of_map_at}
+use Rattle.zone_finding.specs.Counted.{AreCounted}
+use Rattle.zone_finding.proofs.Naming.{in_map, map_at, of_map_at}
 
 -- ---- rows
 
@@ -116,6 +118,24 @@ rows_are_kept slots list now same kept = record {
   listed = subst AreListed (sym (rows_named list now same)) kept.listed;
   each = rows_stand slots list now same kept.each;
   owned = λ zone slot set at. rows_ids list now same zone (kept.owned zone slot set at);
+}
+
+-- what is counted of all zones stays
+sum_by_rows : (f : ZoneButRoom → ℕ) (list : List Listed) → sum_by (λ (k : Listed). f (zone_but_room k)) list ≡ sum_by f (map zone_but_room list)
+sum_by_rows f [] = refl
+sum_by_rows f (k ∷ list) =
+    sum_by-cons (λ (k : Listed). f (zone_but_room k)) k list
+    ∙ (ap (λ n. f (zone_but_room k) + n) (sum_by_rows f list) ∙ sym (sum_by-cons f (zone_but_room k) (map zone_but_room list)))
+
+pub rows_counted : (store : Slots) (list now : List Listed) (octets : ℕ) → same_rows list now
+    → AreCounted store list octets → AreCounted store now octets
+rows_counted store list now octets same counted = record {
+  sets = (let a = sum_by_rows (λ (r : ZoneButRoom). length r.order) now in let b = sum_by_rows (λ (r : ZoneButRoom). length r.order) list in
+      let e = ap (sum_by (λ (r : ZoneButRoom). length r.order)) same in let was = counted.sets in
+      omega (arith, a, b, e, was));
+  all_octets = counted.all_octets
+      ∙ ap (λ n. n % 2 ^ 64) (sum_by_rows (λ (r : ZoneButRoom). r.sums.octets) list
+      ∙ (ap (sum_by (λ (r : ZoneButRoom). r.sums.octets)) (sym same) ∙ sym (sum_by_rows (λ (r : ZoneButRoom). r.sums.octets) now)));
 }
 
 -- ---- the store

@@ -6,7 +6,7 @@ use Rattle.zone_list.specs.Apexes.{Comes, Goes}
 use Rattle.zone_list.specs.Zones.{Zone}
 use Rattle.zone_table.specs.declared.edits.ZoneEdit.{ZoneEdit}
 use Rattle.zone_table.specs.declared.edits.ZoneEdit.TheVariants as edit
-use Rattle.zone_table.specs.Looking.{IsApex}
+use Rattle.zone_finding.specs.Looking.{IsApex}
 
 -- The numbers and names that are known, if any are, are those of the zones.
 abbrev pub KnowsNames : Option (List NamedZone) → List Zone → Type 0

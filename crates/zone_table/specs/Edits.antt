@@ -10,7 +10,7 @@ use Rattle.zone_list.specs.Zones.{Zone, IsOne, IsZoneId, HasName, placed_in}
 use Rattle.zone_table.specs.declared.edits.ZoneEdit.{ZoneEdit}
 use Rattle.zone_table.specs.declared.edits.ZoneEdit.TheVariants as edit
 use Rattle.zone_table.specs.declared.refs.Delta.{Delta}
-use Rattle.zone_table.specs.Looking.{IsApex}
+use Rattle.zone_finding.specs.Looking.{IsApex}
 use Rattle.zone_table.specs.Tables.{Table}
 
 -- the zone that an edit is about

@@ -4,7 +4,7 @@ use Rattle.zone_list.specs.Zones.{Zone, AreListed, AreZones, IsOne, hosted, plac
 use Rattle.zone_table.specs.declared.edits.ZoneEdit.{ZoneEdit}
 use Rattle.zone_table.specs.declared.refs.Delta.{Delta}
 use Rattle.zone_table.specs.Edits.{Edits, IsAllowed}
-use Rattle.zone_table.specs.Looking.{IsApex}
+use Rattle.zone_finding.specs.Looking.{IsApex}
 
 -- A number has one name at most.
 abbrev pub OneApex : Type 0

@@ -1,10 +1,7 @@
 pub mod Apexes
-pub mod Counted
 pub mod Edits
 pub mod Laws
-pub mod Looking
 pub mod Needs
-pub mod Stored
 pub mod Tables
 pub use Rattle.zone_list.specs.Existing
 pub use Rattle.zone_list.specs.Slotted
@@ -34,3 +31,7 @@ pub use Rattle.zone_list.specs.BodyRecord
 pub use Rattle.cidr_routing.specs.Choice
 pub use Rattle.zone_list.specs.Policies
 pub use Rattle.zone_list.specs.Spelling
+pub use Rattle.zone_finding.specs.Counted
+pub use Rattle.zone_finding.specs.Looking
+pub use Rattle.zone_finding.specs.Stored
+pub use Rattle.zone_finding.specs.declared.refs.Group as GroupRecord

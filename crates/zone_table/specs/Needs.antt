@@ -13,7 +13,8 @@ use Rattle.zone_list.specs.Zones.{placed_in}
 use Rattle.zone_table.specs.declared.edits.ZoneEdit.{ZoneEdit}
 use Rattle.zone_table.specs.declared.edits.ZoneEdit.TheVariants as edit
 use Rattle.zone_table.specs.declared.needs.Need.{Need}
-use Rattle.zone_table.specs.Edits.{IsAllowed, Prepared}
+use Rattle.zone_table.specs.Edits.{IsAllowed, IsReady, Prepared}
+use Rattle.zone_table.specs.Tables.{Table}
 
 -- A zone, but for how many more sets it can take.
 pub record ZoneButRoom : Type 0 where
@@ -100,3 +101,7 @@ pub record IsPrepared (made : ZoneEdit) (edits : ℕ) (need : Need) (ready : Pre
   pub addable : need.addable ≤ ready.addable
   pub places : need.places ≤ ready.places
   pub buffer : need.buffer ≤ ready.buffer
+
+-- What has so much memory beside is ready.
+abbrev pub Prepares : Table → ZoneEdit → Need → Type 0
+Prepares table made need = (ready : Prepared) → IsPrepared made table.edits need ready → IsReady table ready

@@ -11,9 +11,15 @@ use std::marker::Model;
 use zone_list::{Hints, Name, RecordSet, SetKey, SetRef};
 
 /// Record sets, in any order.
-#[derive(Drop)]
 pub struct Sets {
     list: Vec<RecordSet>,
+}
+
+/// Written out, so that what drops sets takes one step, and not one for each of their parts.
+impl Drop for Sets {
+    fn drop(self) {
+        let Sets { list: _ } = self;
+    }
 }
 
 impl Model for Sets {
@@ -44,7 +50,8 @@ impl Sets {
     pub fn into_vec(self) -> Vec<RecordSet>
         ensures { result.items ≡ self }
     {
-        self.list
+        let Sets { list } = self;
+        list
     }
 
     /// How many they are.

@@ -7,7 +7,6 @@
 
 mod edits;
 mod laws;
-mod looking;
 mod making;
 mod needs;
 mod refs;
@@ -17,7 +16,8 @@ pub use cidr_routing::{Collections, Ident, choose_block};
 pub use edits::{Ready, SetKeys, Sets, ZoneEdit};
 pub use laws::{one_apex, one_edit, sets_of_one};
 pub use octets::OutOfMemory;
-pub use refs::{Delta, Group};
+pub use refs::Delta;
+pub use zone_finding::Group;
 pub use zone_list::{
     RecordSet, Scratch, SetKey, SetRef, SetRefs, Watch, behind_text, fields_are_read, find,
     has_spelling, key_cmp, keys_are_ordered, region_at, sub_at,

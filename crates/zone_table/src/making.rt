@@ -10,14 +10,16 @@ ghost use Rattle.zone_list.specs.Steps.{cells_in_all};
 ghost use Rattle.zone_list.specs.Zones.{placed_in};
 ghost use Rattle.zone_table.specs.declared.edits.ZoneEdit.TheVariants.{Begin, End, Change};
 ghost use Rattle.zone_table.specs.Apexes.{Notes};
-ghost use Rattle.zone_table.specs.Counted.{AreCounted};
+ghost use Rattle.zone_finding.specs.Counted.{AreCounted};
 ghost use Rattle.zone_table.specs.Edits.{Edits, IsAllowed, collections_after};
 ghost use Rattle.zone_table.specs.Needs.{CanTake, IsReadyFor};
 
-use crate::edits::{Ready, SetKeys, Sets, ZoneEdit};
+use crate::edits::{Ready, ZoneEdit};
 use crate::refs::Delta;
 use cidr_routing::Collections;
-use zone_list::{Apexes, SetRef, SetRefs, SetSlots, StoredZone, find_zone, first_from};
+use zone_list::{
+    Apexes, RecordSet, SetKey, SetRef, SetRefs, SetSlots, StoredZone, find_zone, first_from,
+};
 
 /// Notes the name of a zone that begins, and forgets that of one that ends.
 pub fn note_name(apexes: &mut Apexes, made: &ZoneEdit)
@@ -55,21 +57,57 @@ pub fn make(
         added,
         places,
         hints,
-        buffer,
+        mut buffer,
         ..
     } = ready;
     match made {
         ZoneEdit::Begin { zone, name, sets } => {
             let opened = StoredZone::new(zone, name, places, hints);
-            open(store, list, octets, opened, sets, removed, added, buffer)
+            let add = sets.as_slice();
+            let octets_of_set = buffer.as_mut_slice();
+            let delta = open(
+                store,
+                list,
+                octets,
+                opened,
+                add,
+                octets_of_set,
+                removed,
+                added,
+            );
+            drop(sets);
+            drop(buffer);
+            delta
         }
-        ZoneEdit::End(zone) => close(store, list, octets, zone, removed, added),
+        ZoneEdit::End(zone) => {
+            drop(places);
+            drop(hints);
+            drop(buffer);
+            close(store, list, octets, zone, removed, added)
+        }
         ZoneEdit::Change { zone, remove, add } => {
-            change(
-                store, list, octets, zone, remove, add, removed, added, buffer,
-            )
+            drop(places);
+            drop(hints);
+            let delta = change(
+                store,
+                list,
+                octets,
+                zone,
+                remove.as_slice(),
+                add.as_slice(),
+                buffer.as_mut_slice(),
+                removed,
+                added,
+            );
+            drop(remove);
+            drop(add);
+            drop(buffer);
+            delta
         }
         ZoneEdit::Collections(now) => {
+            drop(places);
+            drop(hints);
+            drop(buffer);
             *collections = now;
             Delta {
                 zone: 0,
@@ -86,41 +124,33 @@ fn open(
     list: &mut Vec<StoredZone>,
     octets: &mut u64,
     mut opened: StoredZone,
-    sets: Sets,
+    add: &[RecordSet],
+    buffer: &mut [u8],
     mut removed: Vec<SetRef>,
     mut added: Vec<SetRef>,
-    mut buffer: Vec<u8>,
 ) -> Delta
     requires kept { AreIntact store.old.slots list.old.items }
     requires counted { AreCounted store.old list.old.items octets.old }
     requires allowed { IsAllowed (zones_in store.old.slots list.old.items)
-        (Begin opened.id opened.apex sets) }
+        (Begin opened.id opened.apex add.now) }
     requires spare { length list.old.items < vec_capacity list.old }
     requires empty { opened.order ≡ [] }
     requires none { opened.sums ≡ sums_of [] }
     requires none_removed { removed.items ≡ [] }
     requires none_added { added.items ≡ [] }
-    requires addable { length sets ≤ vec_capacity added }
-    requires places { length sets ≤ opened.room }
-    requires slots { length sets ≤ store.old.free }
-    requires cells { cells_in_all sets ≤ store.old.cells }
-    requires buffer { AllByRecursion (λ set. length (set_octets set) ≤ length buffer.items) sets }
+    requires addable { length add.now ≤ vec_capacity added }
+    requires places { length add.now ≤ opened.room }
+    requires slots { length add.now ≤ store.old.free }
+    requires cells { cells_in_all add.now ≤ store.old.cells }
+    requires buffer { AllByRecursion (λ set. length (set_octets set) ≤ length buffer.old) add.now }
     ensures kept { AreIntact store.new.slots list.new.items }
     ensures counted { AreCounted store.new list.new.items octets.new }
     ensures slots { length store.new.slots ≡ length store.old.slots }
     ensures edits { Edits (zones_in store.old.slots list.old.items)
-        (Begin opened.id opened.apex sets) (zones_in store.new.slots list.new.items) result }
+        (Begin opened.id opened.apex add.now) (zones_in store.new.slots list.new.items) result }
 {
     let zone = opened.id();
-    let add = sets.as_slice();
-    opened.change(
-        store,
-        &[],
-        add,
-        buffer.as_mut_slice(),
-        &mut removed,
-        &mut added,
-    );
+    opened.change(store, &[], add, buffer, &mut removed, &mut added);
     *octets = recount(*octets, 0, opened.sums().octets);
     let place = first_from(list, zone);
     insert_zone(list, place, opened);
@@ -201,42 +231,35 @@ fn change(
     list: &mut Vec<StoredZone>,
     octets: &mut u64,
     zone: u32,
-    remove: SetKeys,
-    add: Sets,
+    remove: &[SetKey],
+    add: &[RecordSet],
+    buffer: &mut [u8],
     mut removed: Vec<SetRef>,
     mut added: Vec<SetRef>,
-    mut buffer: Vec<u8>,
 ) -> Delta
     requires kept { AreIntact store.old.slots list.old.items }
     requires counted { AreCounted store.old list.old.items octets.old }
     requires allowed { IsAllowed (zones_in store.old.slots list.old.items)
-        (Change zone remove add) }
+        (Change zone remove.now add.now) }
     requires none_removed { removed.items ≡ [] }
     requires none_added { added.items ≡ [] }
-    requires removable { length remove ≤ vec_capacity removed }
-    requires addable { length add ≤ vec_capacity added }
-    requires places { CanTake list.old.items zone (length add) }
-    requires slots { length add ≤ store.old.free }
-    requires cells { cells_in_all add ≤ store.old.cells }
-    requires buffer { AllByRecursion (λ set. length (set_octets set) ≤ length buffer.items) add }
+    requires removable { length remove.now ≤ vec_capacity removed }
+    requires addable { length add.now ≤ vec_capacity added }
+    requires places { CanTake list.old.items zone (length add.now) }
+    requires slots { length add.now ≤ store.old.free }
+    requires cells { cells_in_all add.now ≤ store.old.cells }
+    requires buffer { AllByRecursion (λ set. length (set_octets set) ≤ length buffer.old) add.now }
     ensures kept { AreIntact store.new.slots list.new.items }
     ensures counted { AreCounted store.new list.new.items octets.new }
     ensures slots { length store.new.slots ≡ length store.old.slots }
-    ensures edits { Edits (zones_in store.old.slots list.old.items) (Change zone remove add)
-        (zones_in store.new.slots list.new.items) result }
+    ensures edits { Edits (zones_in store.old.slots list.old.items)
+        (Change zone remove.now add.now) (zones_in store.new.slots list.new.items) result }
 {
     let Some(place) = find_zone(list, zone) else {
         unreachable!()
     };
     let before = octets_at(list, place);
-    list[place].change(
-        store,
-        remove.as_slice(),
-        add.as_slice(),
-        buffer.as_mut_slice(),
-        &mut removed,
-        &mut added,
-    );
+    list[place].change(store, remove, add, buffer, &mut removed, &mut added);
     *octets = recount(*octets, before, octets_at(list, place));
     Delta {
         zone,

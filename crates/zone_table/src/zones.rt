@@ -11,29 +11,30 @@ ghost use Rattle.zone_list.specs.Spelling.{IsPart, from_policy};
 ghost use Rattle.zone_list.specs.Sums.{aliases_of, checked_of, octets_of};
 ghost use Rattle.zone_list.specs.Found.{NextZoneOrNone};
 ghost use Rattle.zone_list.specs.Zones.{AreZones, IsZoneId, placed_in};
-ghost use Rattle.zone_table.specs.Counted.{octets_in_all, sets_in_all};
+ghost use Rattle.zone_finding.specs.Counted.{octets_in_all, sets_in_all};
 ghost use Rattle.zone_table.specs.Edits.{Edits, IsAllowed, IsReady, StayReady};
 ghost use Rattle.zone_table.specs.Edits.{collections_after};
-ghost use Rattle.zone_table.specs.Looking.{ApexOrNone, HasNameAt, HolderOrNone, IsZoneForOrNone};
-ghost use Rattle.zone_table.specs.Looking.{IsApex, IsGroup, IsGroupNow, RefersTo, slots_in};
-ghost use Rattle.zone_table.specs.Looking.{HasNoStar, IsSetOfGroup, IsNextSet, IsSetAt, Loads, ServersAreAt};
-ghost use Rattle.zone_table.specs.Looking.{Targets, Watches, bound_of};
+ghost use Rattle.zone_table.specs.Needs.{Prepares};
+ghost use Rattle.zone_finding.specs.Looking.{ApexOrNone, HasNameAt, HolderOrNone, IsZoneForOrNone};
+ghost use Rattle.zone_finding.specs.Looking.{IsApex, IsGroup, IsGroupNow, RefersTo, slots_in};
+ghost use Rattle.zone_finding.specs.Looking.{HasNoStar, IsSetOfGroup, IsNextSet, IsSetAt, Loads, ServersAreAt};
+ghost use Rattle.zone_finding.specs.Looking.{Targets, Watches, bound_of};
 ghost use Rattle.zone_table.specs.Tables.{HaveSlotsApart, HaveSlotsBelow};
 ghost use Rattle.zone_list.specs.Stops.{bound_of as told};
 
 use crate::edits::{Ready, ZoneEdit};
-use crate::looking::{
-    apex_of, copies, has_name, hint_of, hint_or, is_below, load, may_have_cuts, may_have_wildcards,
-    order_of, piece, pieces, policy, slot_at, slot_behind, slot_in, slots_of, sums_in, target,
-    view_near, watch, zone_sets,
-};
 use crate::making::{make, note_name, settle, settle_all};
-use crate::needs::{need_of, reserve_for, reserve_name};
-use crate::refs::{Delta, Group};
+use crate::needs::{Need, need_of, reserve_for, reserve_name};
+use crate::refs::Delta;
 use cidr_routing::Collections;
 use octets::OutOfMemory;
 use std::alloc::Global;
 use std::marker::Model;
+use zone_finding::{
+    Group, apex_of, copies, has_name, hint_of, hint_or, is_below, load, may_have_cuts,
+    may_have_wildcards, order_of, piece, pieces, policy, slot_at, slot_behind, slot_in, slots_of,
+    sums_in, target, view_near, watch, zone_sets,
+};
 use zone_list::{
     Apexes, Name, RType, RecordSet, Scratch, SetKey, SetRef, SetSlots, Stop, StoredZone, Watch,
     before_key, behind_key, closest_in, exists_in, find_zone, group_in, longest, make_room,
@@ -60,7 +61,7 @@ impl Model for Zones {
     ghost use Rattle.std.specs.Prelude.{◌-◌, length, map, vec_capacity};
     ghost use Rattle.zone_list.specs.Kept.{AreIntact, zones_in};
     ghost use Rattle.zone_table.specs.Apexes.{KnowsNames};
-    ghost use Rattle.zone_table.specs.Counted.{AreCounted};
+    ghost use Rattle.zone_finding.specs.Counted.{AreCounted};
     ghost use Rattle.zone_table.specs.Tables.{Table};
 
     ghost Value = { Table };
@@ -440,11 +441,29 @@ impl Zones {
         ensures ready { IfOk result (λ ready. IsReady self.new ready) }
         ensures others { StayReady self.old self.new }
     {
-        reserve_name(&mut self.apexes, &edit)?;
-        let need = need_of(&self.list, &edit)?;
-        make_room(&mut self.store, need.addable, need.cells)?;
-        reserve_for(&mut self.list, &edit)?;
+        let Ok(need) = self.reserve(&edit) else {
+            drop(edit);
+            return Err(OutOfMemory);
+        };
         Ready::new(alloc, edit, self.edits, need)
+    }
+
+    /// Takes the memory that an edit wants of the zones, and tells what it wants beside. The zones
+    /// stay as they are, and edits that are ready stay ready, also where memory runs out.
+    fn reserve(&mut self, edit: &ZoneEdit) -> Result<Need, OutOfMemory>
+        requires { IsAllowed self.old.zones edit.now }
+        ensures zones { self.new.zones ≡ self.old.zones }
+        ensures collections { self.new.collections ≡ self.old.collections }
+        ensures slots { self.old.slots ≤ self.new.slots }
+        ensures edits { self.new.edits ≡ self.old.edits }
+        ensures room { IfOk result (λ need. Prepares self.new edit.now need) }
+        ensures others { StayReady self.old self.new }
+    {
+        reserve_name(&mut self.apexes, edit)?;
+        let need = need_of(&self.list, edit)?;
+        make_room(&mut self.store, need.addable, need.cells)?;
+        reserve_for(&mut self.list, edit)?;
+        Ok(need)
     }
 
     /// Makes an edit that is ready. Tells the references of the sets that went and of those that

@@ -5,7 +5,7 @@ use Rattle.zone_table.specs.Telling.{target_of}
 use Rattle.zone_table.specs.Changes.{IsKeyOf}
 use Rattle.zone_table.specs.Sets.{group}
 use Rattle.alias_links.specs.After.{changed_in}
-use Rattle.alias_links.proofs.Held.{has_target, is_target, none_without}
+use Rattle.alias_links.proofs.Held.{has_target, is_target, key_held, none_without}
 use Rattle.alias_links.proofs.Looping.{empty_so}
 use Rattle.alias_links.proofs.missing.missing_at.Goals as goal
 
@@ -26,7 +26,8 @@ pub returns-then-is_key_of : goal.returns-then-is_key_of
 returns-then-is_key_of c =
     λ set at does. does.0
     (subst (λ (k : SetKey). IsKeyOf c.args.remove.now k)
-    (c.key_in-key.ensures set (c.hold_at.ensures.held ∙ at))
+    (key_held c.hold_at.new.scratch c.key-key.result c.key-key.ensures set
+    (c.hold_at.ensures.held ∙ at))
     (c.is_key_of.ensures.0 c.if-is_key_of.true))
 
 pub returns : goal.returns
@@ -35,7 +36,8 @@ returns c =
     changed_in c.args.zones.now.zones c.args.zone c.args.remove.now c.args.add.now in
     let target = c.in-Some.target in
     let is : target_of set ≡ Some target = sym (c.target_at.ensures set at) ∙ c.in-Some.is in
-    let key = c.key_in-key.ensures set (c.hold_at.ensures.held ∙ at) in
+    let key = key_held c.hold_at.new.scratch c.key-key.result c.key-key.ensures set
+    (c.hold_at.ensures.held ∙ at) in
     let empty = empty_so (group after target.0 target.1)
     (λ some. false≢true (sym c.if-is_filled.false ∙ c.is_filled.ensures.1 some)) in (
       (

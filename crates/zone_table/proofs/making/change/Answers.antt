@@ -1,9 +1,5 @@
-use Rattle.std.proofs.Common.{◌≤◌, ◌+◌, ◌%◌, ◌^◌, ◌∙◌, ap, List, ℕ, suc, take, drop, length, sym, subst, arith}
+use Rattle.std.proofs.Common.{◌+◌, ◌%◌, ◌^◌, ◌∙◌, ap, List, suc, take, drop, sym, subst, arith}
 use Rattle.std.specs.Prelude.{slice_set}
-use Rattle.std.specs.List.{AllByRecursion}
-use Rattle.zone_list.specs.RecordSetRecord.{RecordSet}
-use Rattle.zone_list.specs.SetKeyRecord.{SetKey}
-use Rattle.zone_list.specs.Octets.{set_octets}
 use Rattle.zone_list.proofs.Among.{among_at}
 use Rattle.zone_list.specs.Orders.{slotted_of}
 use Rattle.zone_list.specs.Changes.{CanChange, Changes}
@@ -13,9 +9,9 @@ use Rattle.zone_list.specs.Zones.{IsZoneId}
 use Rattle.zone_table.specs.declared.edits.ZoneEdit.TheVariants.{Change}
 use Rattle.zone_table.proofs.Edited.{changed_edits, its_can, told}
 use Rattle.zone_table.proofs.Kept.{changed_kept, changed_stands, changed_zones, whole_zones}
-use Rattle.zone_table.proofs.Naming.{in_map, inside_of, it_is, one_named, stands_here, with_sets}
+use Rattle.zone_finding.proofs.Naming.{in_map, inside_of, it_is, one_named, stands_here, with_sets}
 use Rattle.zone_list.proofs.Lists.{get_same}
-use Rattle.zone_table.proofs.Totals.{changed_counted}
+use Rattle.zone_finding.proofs.Totals.{changed_counted}
 use Rattle.zone_table.proofs.making.change.Goals as goal
 
 pub unreachable-requires : goal.unreachable-requires
@@ -55,22 +51,12 @@ change-requires-clause-can c =
     subst (λ (l : List Listed). IsAt (named_of l) c.args.zone c.in-Some.place) c.deref.ensures.value
     c.in-Some.ensures in
     let it = it_is list c.args.zone c.in-Some.place found k c.index_mut.ensures.value in
-    let can : CanChange k.apex (slotted_of slots k.id k.order) c.args.remove c.args.add =
+    let can : CanChange k.apex (slotted_of slots k.id k.order) c.args.remove.now c.args.add.now =
     its_can (zones_in slots list) (zone_in slots k)
     (in_map (zone_in slots) list k (among_at list c.in-Some.place k it.1))
-    (with_sets slots list c.requires.kept.listed) c.args.zone c.args.remove c.args.add it.2
+    (with_sets slots list c.requires.kept.listed) c.args.zone c.args.remove.now c.args.add.now it.2
     c.requires.allowed in
-    subst (λ (ks : List SetKey). CanChange k.apex (slotted_of slots k.id k.order) ks c.as_slice-2.result.now)
-    (sym c.as_slice.ensures)
-    (subst (λ (ss : List RecordSet). CanChange k.apex (slotted_of slots k.id k.order) c.args.remove ss)
-    (sym c.as_slice-2.ensures) can)
-
-pub change-requires-clause-buffer : goal.change-requires-clause-buffer
-change-requires-clause-buffer c =
-    subst (λ (ss : List RecordSet). AllByRecursion (λ set. length (set_octets set)
-    ≤ length c.as_mut_slice.result.now) ss) (sym c.as_slice-2.ensures)
-    (subst (λ (b : List ℕ). AllByRecursion (λ set. length (set_octets set) ≤ length b) c.args.add)
-    (sym c.as_mut_slice.ensures.value) c.requires.buffer)
+    can
 
 pub change-requires-clause-places : goal.change-requires-clause-places
 change-requires-clause-places c =
@@ -80,14 +66,13 @@ change-requires-clause-places c =
     subst (λ (l : List Listed). IsAt (named_of l) c.args.zone c.in-Some.place) c.deref.ensures.value
     c.in-Some.ensures in
     let it = it_is list c.args.zone c.in-Some.place found k c.index_mut.ensures.value in
-    subst (λ (ss : List RecordSet). length ss ≤ k.room) (sym c.as_slice-2.ensures)
-    (c.requires.places c.in-Some.place k it.1 it.2)
+    c.requires.places c.in-Some.place k it.1 it.2
 
 -- what changed, and what the zone holds now
-changes-of : (c : goal.After-drop-remove-inside) → (IsAt (named_of c.args.list.now.items) c.args.zone c.in-Some.place)
+changes-of : (c : goal.After-from_vec-2) → (IsAt (named_of c.args.list.now.items) c.args.zone c.in-Some.place)
     × Changes c.index_mut.result.now.id
     (slotted_of c.args.store.now.slots c.index_mut.result.now.id c.index_mut.result.now.order)
-    c.args.remove c.args.add c.change.new.removed.items c.change.new.added.items
+    c.args.remove.now c.args.add.now c.change.new.removed.items c.change.new.added.items
     (slotted_of c.change.new.store.slots c.change.new.self.id c.change.new.self.order)
 changes-of c =
     let slots = c.args.store.now.slots in
@@ -96,14 +81,10 @@ changes-of c =
     let now = made.store.slots in (
       subst (λ (l : List Listed). IsAt (named_of l) c.args.zone c.in-Some.place) c.deref.ensures.value
           c.in-Some.ensures,
-      subst (λ (ks : List SetKey). Changes k.id (slotted_of slots k.id k.order) ks c.args.add
-          made.removed.items made.added.items (slotted_of now made.self.id made.self.order)) c.as_slice.ensures
-          (subst (λ (ss : List RecordSet). Changes k.id (slotted_of slots k.id k.order) c.as_slice.result.now ss
-          made.removed.items made.added.items (slotted_of now made.self.id made.self.order)) c.as_slice-2.ensures
-          c.change.ensures.changes),
+      c.change.ensures.changes,
     )
 
-stands-now : (c : goal.After-drop-remove-inside) → IsIntact c.change.new.store.slots c.change.new.self
+stands-now : (c : goal.After-from_vec-2) → IsIntact c.change.new.store.slots c.change.new.self
 stands-now c =
     let slots = c.args.store.now.slots in
     let list = c.args.list.now.items in
@@ -113,12 +94,12 @@ stands-now c =
     let known = changes-of c in
     let it = it_is list c.args.zone i known.0 k c.index_mut.ensures.value in
     let there = among_at list i k it.1 in
-    let can : CanChange k.apex (slotted_of slots k.id k.order) c.args.remove c.args.add =
+    let can : CanChange k.apex (slotted_of slots k.id k.order) c.args.remove.now c.args.add.now =
     its_can (zones_in slots list) (zone_in slots k) (in_map (zone_in slots) list k there)
-    (with_sets slots list c.requires.kept.listed) c.args.zone c.args.remove c.args.add it.2
+    (with_sets slots list c.requires.kept.listed) c.args.zone c.args.remove.now c.args.add.now it.2
     c.requires.allowed in
     changed_stands slots made.store.slots k made.self c.change.ensures.apex c.change.ensures.order
-    c.args.remove c.args.add made.removed.items made.added.items
+    c.args.remove.now c.args.add.now made.removed.items made.added.items
     known.1 (stands_here slots list c.requires.kept k there) can.added.each c.change.ensures.sums c.change.ensures.id
 
 pub returns-clause-kept : goal.returns-clause-kept
@@ -141,7 +122,7 @@ returns-clause-edits c =
     let made = c.change.new in
     let now = made.store.slots in
     let stands = stands-now c in
-    told (zones_in slots list) (Change c.args.zone c.args.remove c.args.add)
+    told (zones_in slots list) (Change c.args.zone c.args.remove.now c.args.add.now)
     (zones_in now (slice_set list i made.self)) c.args.zone
     made.removed.items c.from_vec.result made.added.items c.from_vec-2.result c.from_vec.ensures
     c.from_vec-2.ensures
@@ -154,7 +135,7 @@ returns-clause-edits c =
     c.change.ensures.id c.change.ensures.apex stands)
     (with_sets slots list c.requires.kept.listed)
     (with_sets now (slice_set list i made.self) (returns-clause-kept c).listed)
-    c.change.ensures.id c.change.ensures.apex c.args.zone c.args.remove c.args.add
+    c.change.ensures.id c.change.ensures.apex c.args.zone c.args.remove.now c.args.add.now
     made.removed.items made.added.items it.2 known.1)
 
 pub change-requires-clause-sums : goal.change-requires-clause-sums

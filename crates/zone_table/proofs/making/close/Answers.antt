@@ -8,10 +8,10 @@ use Rattle.zone_table.specs.declared.edits.ZoneEdit.TheVariants.{End}
 use Rattle.zone_table.specs.Edits.{Edits}
 use Rattle.zone_table.proofs.Edited.{closed_edits, told}
 use Rattle.zone_table.proofs.Kept.{all_zones, closed_kept, closed_zones}
-use Rattle.zone_table.proofs.Naming.{as_many_sets, inside_of, it_is, one_named, stands_here, with_sets}
+use Rattle.zone_finding.proofs.Naming.{as_many_sets, inside_of, it_is, one_named, stands_here, with_sets}
 use Rattle.zone_list.specs.SumsRecord.{Sums}
-use Rattle.zone_table.specs.Counted.{AreCounted}
-use Rattle.zone_table.proofs.Totals.{closed_counted}
+use Rattle.zone_finding.specs.Counted.{AreCounted}
+use Rattle.zone_finding.proofs.Totals.{closed_counted}
 use Rattle.zone_table.proofs.making.close.Goals as goal
 
 pub unreachable-requires : goal.unreachable-requires

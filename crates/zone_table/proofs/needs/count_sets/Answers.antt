@@ -1,7 +1,7 @@
 use Rattle.std.proofs.Common.{◌∙◌, List, ℕ, ap, length, sym}
 use Rattle.zone_list.specs.Kept.{zones_in}
 use Rattle.zone_list.proofs.Listing.{none_placed}
-use Rattle.zone_table.proofs.Naming.{as_many_sets, inside_of, one_named}
+use Rattle.zone_finding.proofs.Naming.{as_many_sets, inside_of, one_named}
 use Rattle.zone_table.proofs.needs.count_sets.Goals as goal
 
 pub returns-in-Some : goal.returns-in-Some

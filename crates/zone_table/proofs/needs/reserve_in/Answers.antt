@@ -3,7 +3,7 @@ use Rattle.std.proofs.lemmas.List.{length-set}
 use Rattle.zone_list.specs.Found.{IsAt}
 use Rattle.zone_list.specs.Kept.{Listed, named_of}
 use Rattle.zone_list.specs.Zones.{IsZoneId}
-use Rattle.zone_table.proofs.Naming.{it_is}
+use Rattle.zone_finding.proofs.Naming.{it_is}
 use Rattle.zone_table.proofs.Rooms.{can_take, none_to_take, on_ok_so, room_kept, rows_kept}
 use Rattle.zone_table.proofs.needs.reserve_in.Goals as goal
 

@@ -4,7 +4,7 @@ use Rattle.zone_list.specs.Sums.{aliases_of, sums_of}
 use Rattle.zone_list.specs.Kept.{Listed, zones_in}
 use Rattle.zone_list.specs.Zones.{placed_in}
 use Rattle.zone_table.specs.Tables.{Table}
-use Rattle.zone_table.proofs.Totals.{zone_aliases}
+use Rattle.zone_finding.proofs.Totals.{zone_aliases}
 use Rattle.zone_table.proofs.zones.Zones.aliases.Goals as goal
 
 pub returns : goal.returns

@@ -1,7 +1,7 @@
 use Rattle.std.proofs.Common.{ap, ◌∙◌, arith}
-use Rattle.zone_table.specs.Counted.{octets_in_all}
+use Rattle.zone_finding.specs.Counted.{octets_in_all}
 use Rattle.zone_table.specs.Tables.{Table}
-use Rattle.zone_table.proofs.Totals.{whole_octets}
+use Rattle.zone_finding.proofs.Totals.{whole_octets}
 use Rattle.zone_table.proofs.zones.Zones.all_octets.Goals as goal
 
 pub returns : goal.returns

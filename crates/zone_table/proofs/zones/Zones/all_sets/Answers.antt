@@ -1,7 +1,7 @@
 use Rattle.std.proofs.Common.{ap, arith}
-use Rattle.zone_table.specs.Counted.{sets_in_all}
+use Rattle.zone_finding.specs.Counted.{sets_in_all}
 use Rattle.zone_table.specs.Tables.{Table}
-use Rattle.zone_table.proofs.Totals.{all_sets}
+use Rattle.zone_finding.proofs.Totals.{all_sets}
 use Rattle.zone_table.proofs.zones.Zones.all_sets.Goals as goal
 
 pub overflow_sub-result : goal.overflow_sub-result

@@ -2,9 +2,9 @@ use Rattle.std.proofs.Common.{List, ℕ, subst, sym}
 use Rattle.zone_list.specs.Found.{IsAt}
 use Rattle.zone_list.specs.Kept.{Listed, named_of}
 use Rattle.zone_list.specs.Zones.{IsZoneId}
-use Rattle.zone_table.specs.Looking.{IsApex}
+use Rattle.zone_finding.specs.Looking.{IsApex}
 use Rattle.zone_table.specs.Tables.{Table}
-use Rattle.zone_table.proofs.Naming.{apex_at, inside_of, one_named}
+use Rattle.zone_finding.proofs.Naming.{apex_at, inside_of, one_named}
 use Rattle.zone_table.proofs.zones.Zones.apex.Goals as goal
 
 pub returns-in-Some : goal.returns-in-Some

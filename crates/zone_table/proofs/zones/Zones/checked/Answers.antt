@@ -4,7 +4,7 @@ use Rattle.zone_list.specs.Sums.{checked_of, sums_of}
 use Rattle.zone_list.specs.Kept.{Listed, zones_in}
 use Rattle.zone_list.specs.Zones.{placed_in}
 use Rattle.zone_table.specs.Tables.{Table}
-use Rattle.zone_table.proofs.Totals.{zone_checked}
+use Rattle.zone_finding.proofs.Totals.{zone_checked}
 use Rattle.zone_table.proofs.zones.Zones.checked.Goals as goal
 
 pub returns : goal.returns

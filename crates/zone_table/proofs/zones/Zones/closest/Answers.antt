@@ -4,10 +4,10 @@ use Rattle.zone_list.specs.Existing.{Exists}
 use Rattle.zone_list.specs.Slotted.{sets_of}
 use Rattle.zone_list.specs.Kept.{Listed, zones_in}
 use Rattle.zone_list.specs.Zones.{placed_in}
-use Rattle.zone_table.specs.Looking.{IsApex}
+use Rattle.zone_finding.specs.Looking.{IsApex}
 use Rattle.zone_table.specs.Tables.{Table}
-use Rattle.zone_table.proofs.Looked.{apex_there}
-use Rattle.zone_table.proofs.Naming.{are_zones}
+use Rattle.zone_finding.proofs.Looked.{apex_there}
+use Rattle.zone_finding.proofs.Naming.{are_zones}
 use Rattle.zone_table.proofs.zones.Zones.closest.Goals as goal
 
 pub closest_in-requires-clause-some : goal.closest_in-requires-clause-some

@@ -2,11 +2,11 @@ use Rattle.std.proofs.Common.{◌∙◌, List, ap, length, subst, sym}
 use Rattle.std.proofs.lemmas.List.{with_items_is}
 use Rattle.zone_list.specs.Kept.{AreIntact, Listed, zones_in}
 use Rattle.zone_table.specs.Apexes.{KnowsNames, Notes}
-use Rattle.zone_table.specs.Counted.{AreCounted}
+use Rattle.zone_finding.specs.Counted.{AreCounted}
 use Rattle.zone_table.specs.Edits.{Edits, IsReady, Prepared}
 use Rattle.zone_table.specs.Tables.{Table}
 use Rattle.zone_table.proofs.Apexes.{noted}
-use Rattle.zone_table.proofs.Naming.{with_sets}
+use Rattle.zone_finding.proofs.Naming.{with_sets}
 use Rattle.zone_table.proofs.Rooms.{ready_for}
 use Rattle.zone_table.proofs.zones.Zones.edit.Goals as goal
 

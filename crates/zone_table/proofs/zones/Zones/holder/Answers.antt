@@ -1,6 +1,6 @@
 use Rattle.std.proofs.Common.{List, subst}
 use Rattle.zone_list.specs.Kept.{Listed, zones_in}
-use Rattle.zone_table.specs.Looking.{IsApex}
+use Rattle.zone_finding.specs.Looking.{IsApex}
 use Rattle.zone_table.specs.Tables.{Table}
 use Rattle.zone_table.proofs.zones.Zones.holder.Goals as goal
 

@@ -1,7 +1,7 @@
-use Rattle.std.proofs.Common.{List, ℕ, subst, sym, arith}
+use Rattle.std.proofs.Common.{List, subst, sym, arith}
 use Rattle.zone_list.specs.Kept.{Listed, zones_in}
-use Rattle.zone_table.specs.Counted.{AreCounted}
-use Rattle.zone_table.specs.Looking.{HasNoStar}
+use Rattle.zone_finding.specs.Counted.{AreCounted}
+use Rattle.zone_finding.specs.Looking.{HasNoStar}
 use Rattle.zone_table.specs.Tables.{Table}
 use Rattle.zone_table.proofs.zones.Zones.may_have_wildcards.Goals as goal
 

@@ -4,7 +4,7 @@ use Rattle.zone_list.specs.Sums.{octets_of, sums_of}
 use Rattle.zone_list.specs.Kept.{Listed, zones_in}
 use Rattle.zone_list.specs.Zones.{placed_in}
 use Rattle.zone_table.specs.Tables.{Table}
-use Rattle.zone_table.proofs.Totals.{zone_octets}
+use Rattle.zone_finding.proofs.Totals.{zone_octets}
 use Rattle.zone_table.proofs.zones.Zones.octets.Goals as goal
 
 pub returns : goal.returns

@@ -1,6 +1,6 @@
 use Rattle.std.proofs.Common.{List, subst, sym}
 use Rattle.zone_list.specs.Kept.{Listed, zones_in}
-use Rattle.zone_table.specs.Looking.{RefersTo}
+use Rattle.zone_finding.specs.Looking.{RefersTo}
 use Rattle.zone_table.specs.Tables.{Table}
 use Rattle.zone_table.proofs.zones.Zones.piece.Goals as goal
 

@@ -1,9 +1,9 @@
 use Rattle.std.proofs.Common.{◌≤◌, ◌+◌, ◌∙◌, List, ap, length, subst, sym}
 use Rattle.zone_list.specs.Kept.{Listed, zones_in}
 use Rattle.zone_list.specs.Zones.{placed_in}
-use Rattle.zone_table.specs.Looking.{slots_in}
+use Rattle.zone_finding.specs.Looking.{slots_in}
 use Rattle.zone_table.specs.Tables.{Table}
-use Rattle.zone_table.proofs.GroupSlots.{within}
+use Rattle.zone_finding.proofs.GroupSlots.{within}
 use Rattle.zone_table.proofs.zones.Zones.slots_of.Goals as goal
 
 pub slots_of-requires-clause-within : goal.slots_of-requires-clause-within

@@ -2,7 +2,7 @@ use Rattle.std.proofs.Common.{List, subst}
 use Rattle.zone_list.specs.Found.{NextZoneOrNone}
 use Rattle.zone_list.specs.Kept.{Listed, named_of}
 use Rattle.zone_table.specs.Tables.{Table}
-use Rattle.zone_table.proofs.Naming.{next_with}
+use Rattle.zone_finding.proofs.Naming.{next_with}
 use Rattle.zone_table.proofs.zones.Zones.zone_after.Goals as goal
 
 pub returns : goal.returns

@@ -1,10 +1,10 @@
 use Rattle.std.proofs.Common.{List, None, Some, refl, subst}
 use Rattle.zone_list.specs.Found.{LongestOrNone}
 use Rattle.zone_list.specs.Kept.{Listed, named_of, zones_in}
-use Rattle.zone_table.specs.Looking.{IsZoneForOrNone}
+use Rattle.zone_finding.specs.Looking.{IsZoneForOrNone}
 use Rattle.zone_table.specs.Tables.{Table}
 use Rattle.zone_table.proofs.Apexes.{held_by}
-use Rattle.zone_table.proofs.Naming.{holds}
+use Rattle.zone_finding.proofs.Naming.{holds}
 use Rattle.zone_table.proofs.zones.Zones.zone_for.Goals as goal
 
 pub returns-then-is_known : goal.returns-then-is_known

@@ -1,0 +1,18 @@
+use Rattle.std.proofs.Common.{List, ℕ, subst, sym}
+use Rattle.zone_list.specs.Kept.{zones_in}
+use Rattle.zone_finding.specs.Looking.{IsApex}
+use Rattle.zone_finding.proofs.Naming.{apex_at, inside_of, none_is}
+use Rattle.zone_finding.proofs.looking.apex_of.Goals as goal
+
+pub returns-in-Some : goal.returns-in-Some
+returns-in-Some c =
+    let slots = c.args.store.now.slots in
+    let list = c.args.list.now in
+    let i = c.in-Some.place in
+    subst (λ (name : List (List ℕ)). IsApex (zones_in slots list) c.args.zone name) (sym c.apex.ensures)
+    (apex_at slots list c.args.zone i c.in-Some.ensures c.index-list-place.result
+    (inside_of list c.args.zone i c.in-Some.ensures) c.index-list-place.is)
+
+pub returns-in-None : goal.returns-in-None
+returns-in-None c =
+    (none_is c.args.store.now.slots c.args.list.now c.requires c.args.zone c.in-None.ensures).0
