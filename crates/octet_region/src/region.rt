@@ -18,7 +18,7 @@ use octets::OutOfMemory;
 use std::alloc::Global;
 use std::marker::Model;
 
-/// The most cells: their octets are four gibibytes. Links have room for 2^31 - 34.
+/// The most cells: their octets are four gibibytes. Links have room for 2^31 - 33.
 const MAX_CELLS: usize = 0x7ff_ffff;
 
 /// Octets by handles, in cells of 32.
