@@ -1,8 +1,8 @@
 //! Where the aliases of a zone lead after a change that isn't made yet: the first that would lead
 //! to no set, and the first set from which they would lead on too far.
 //!
-//! Where a change adds no alias and empties no group nothing of this can come about; nor where each alias that it adds
-//! leads to sets that are none, and no walk came to an end at its own group.
+//! Where a change adds no alias and empties no group nothing of this can come about; nor where it empties none, each alias
+//! that it adds leads to sets that are none, and no walk came to an end at its own group.
 #![tactic(auto)]
 
 mod aliases;
