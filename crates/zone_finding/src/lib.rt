@@ -1,8 +1,8 @@
 //! A zone found among those of a server by its number, and its sets looked at, in the store and the
 //! list in which they are kept.
 //!
-//! Each call takes both, and is told that they are intact; what keeps them so is above. A hint tells
-//! where to look first and may be wrong.
+//! Each call is told that what it takes of them is intact; what keeps it so is above. A hint, which the
+//! list alone gives, tells where to look first and may be wrong.
 #![tactic(auto)]
 
 mod looking;
