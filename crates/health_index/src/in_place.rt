@@ -87,9 +87,11 @@ impl HealthIndex {
         true
     }
 
-    /// Takes a command by which one set that nothing decides came into a group with a valve, or went from one,
-    /// or one with a valve of its own went, as an evaluated alias has, or an evaluated alias came. The answer is
-    /// whether it is one, and there is room to note the set; else the index stays as it is. It takes no memory.
+    /// Takes a command by which one set alone went or came: one that nothing decides, from a group with a valve or
+    /// into one; one with a valve of its own that went from a group without one, as an evaluated alias has; or an
+    /// evaluated alias that came into a group without a valve, and leads to one with a valve, or to one of whose sets
+    /// nothing decides any. The answer is whether it is one, and there is room for what it brings; else the index
+    /// stays as it is. It takes no memory.
     pub(crate) fn regroup(&mut self, zones: &Zones, checks: &CheckTable, delta: &Delta) -> bool
         requires room { HasRoom self.old zones.now.slots }
         requires sound { IsSound (watched_of zones.now.zones checks.now.checks) }
@@ -172,7 +174,8 @@ impl HealthIndex {
         true
     }
 
-    /// Takes a command by which one set alone went that has a valve of its own.
+    /// Takes a command by which one set alone went that has a valve of its own, which that of no group fed, or that
+    /// of one which feeds another too.
     fn unlead(&mut self, zones: &Zones, checks: &CheckTable, delta: &Delta, set: SetRef) -> bool
         requires sound { IsSound (watched_of zones.now.zones checks.now.checks) }
         requires gone { HasGone delta.now set }
@@ -198,8 +201,8 @@ impl HealthIndex {
         true
     }
 
-    /// Takes a command by which one set alone went that has a valve of its own, which that of a group alone fed, as
-    /// the last evaluated alias has that leads to the group.
+    /// Takes a command by which one set alone went that has a valve of its own, which that of one group fed, and no
+    /// other one, and which fed no other: as the last evaluated alias has that leads to the group.
     fn unfound(&mut self, zones: &Zones, checks: &CheckTable, delta: &Delta, set: SetRef) -> bool
         requires sound { IsSound (watched_of zones.now.zones checks.now.checks) }
         requires gone { HasGone delta.now set }

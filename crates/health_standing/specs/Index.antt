@@ -27,8 +27,8 @@ use Rattle.health_planning.specs.declared.seats.Seat.{Seat}
 use Rattle.health_standing.specs.Kin.{kin_of}
 
 -- For how many there is room: numbers of checks and what their checkers saw, now and before a
--- command; valves of checks; numbers by which children are kept; slots; sets with valves of their own, and sets
--- of groups with valves; valves, and links between them.
+-- command; valves of checks; numbers by which children are kept; slots; sets that are listed, and sets that
+-- are noted; valves, and links between them.
 pub record Space : Type 0 where
   pub ids : ℕ
   pub numbers : ℕ
@@ -43,8 +43,9 @@ pub record Space : Type 0 where
   pub links : ℕ
 
 -- The numbers of the checks, their valves, what the checkers of each endpoint saw, the children of calculated
--- checks, the valves of sets by their slots, the sets that have valves, those of groups that have one, the
--- valves, and the room that there is.
+-- checks, what decides sets by their slots, the valves, and the room that there is. Listed in `refs` is each set
+-- with a valve of its own, and noted in `members` each of a group with a valve; beside these some that had one, or
+-- whose groups had, and some twice.
 pub record Index : Type 0 where
   pub ids : List ℕ
   pub numbers : List ℕ

@@ -1,5 +1,5 @@
 -- Commands by which one set goes that has a valve of its own, from a group without one, as an evaluated alias
--- does: nothing feeds that valve any more, and a seat tells nothing.
+-- does while another one leads where it led: nothing feeds that valve any more, and a seat tells nothing.
 use Rattle.std.specs.Prelude.{◌≡◌, ◌<◌, ℕ, suc, List}
 use Rattle.health_standing.specs.Index.{Index}
 use Rattle.health_standing.specs.Regrouping.{IsSeatedIn}
@@ -13,7 +13,8 @@ use Rattle.health_valves.specs.declared.valves.Valves.{Valves}
 use Rattle.record_set.specs.declared.sets.RecordSet.{RecordSet}
 
 -- What a set that isn't there any more left: a seat with a valve of its own, which tells none for its group.
--- The valve of each group that feeds it feeds another too: so another alias leads to that group.
+-- What feeds it behind the valves of 200 checks feeds another one too: where that is the valve of a group, another alias
+-- leads there. Where a check alone decided the set, which had its valve in a group that was led to, none of these fed it.
 pub record LeavesValve (zones : List Zone) (seats : List Seat) (valves : Valves) (ref : SetRef) (valve : ℕ)
     : Type 0 where
   pub gone : (named : RecordSet) → RefersTo zones ref named → ⊥

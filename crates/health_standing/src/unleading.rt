@@ -1,5 +1,5 @@
-//! Commands by which one set goes that has a valve of its own, as an evaluated alias has, from a group
-//! without one: nothing feeds that valve any more.
+//! Commands by which one set goes that has a valve of its own, as an evaluated alias has, from a group without one,
+//! while another one leads where it led: nothing feeds that valve any more.
 
 ghost use Rattle.std.specs.Prelude.{◌≡◌, ℕ, Some};
 ghost use Rattle.health_standing.specs.Unleading.{LeavesValve};
