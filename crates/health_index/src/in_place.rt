@@ -41,9 +41,9 @@ use health_check::CheckTable;
 use health_model::paths_end;
 use health_planning::{Delta, MOST_CHECKS, SetRef, Zones, number_at, seat_beside};
 use health_standing::{
-    alias_come, first_come, group_joined, group_left, last_left, note_those, one_come, one_gone,
-    own_in, push_alias, push_first, put_seat, seat_first, seat_in, seat_without, spares_valves,
-    valve_left,
+    alias_come, first_come, group_joined, group_left, last_left, note_those, note_told, one_come,
+    one_gone, own_in, push_alias, push_first, put_seat, seat_first, seat_in, seat_without,
+    spares_valves, valve_left,
 };
 
 impl HealthIndex {
@@ -224,6 +224,7 @@ impl HealthIndex {
         self.valves.unfeed(last.valve);
         self.valves.unfeed(last.group);
         seat_without(&mut self.seats, &self.members, set.slot, last.group);
+        note_told(&mut self.members, &self.seats);
         true
     }
 

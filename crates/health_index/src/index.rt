@@ -76,8 +76,8 @@ pub struct HealthIndex {
     /// The sets with valves of their own, and those that went since all was laid out and had one. A slot to which
     /// a set came behind one that went can stand there twice.
     pub(crate) refs: Vec<SetRef>,
-    /// The sets of groups with valves, and since all was laid out those that went from such groups, or whose groups
-    /// have none any more, and such slots twice too. While all is laid out, the sets that had valves.
+    /// The sets of groups with valves, and those that went from such groups since all was laid out, or since a group
+    /// lost its valve; such a slot can stand there twice too. While all is laid out, the sets that had valves.
     pub(crate) members: Vec<SetRef>,
     /// What was planned: of use while all is laid out.
     pub(crate) blueprint: Blueprint,
@@ -233,8 +233,8 @@ impl HealthIndex {
     /// Where it is the first that leads to its target group, and nothing decides any set of that, it costs a look at
     /// both groups: a valve for the target group and one for the alias come behind all. Valves that went on
     /// without a node take room until all are laid out anew, and so do the sets that had them in the list of sets with
-    /// valves, and the sets that were noted in groups with valves, each time that one was; where there is no room for
-    /// what comes, all is laid out anew.
+    /// valves, and the sets that went from groups with valves among those noted; where there is no room for what comes,
+    /// all is laid out anew.
     ///
     /// Where it tells of no zone, and no calculated check came, went or got other children: where
     /// checks have the numbers of those before, as after UpdateHealthCheck, or one of an endpoint came
