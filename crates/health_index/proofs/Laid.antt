@@ -7,12 +7,13 @@ use mathlib.Core.Path.{subst}
 use Rattle.check_model.specs.declared.checks.Check.{Check}
 use Rattle.health_index.specs.Index.{Index}
 use Rattle.health_index.specs.Laws.{AliasesHaveRoom}
-use Rattle.health_index.specs.Room.{AddsFew, AreApart, HasAsMuch, IsLaidAnew}
+use Rattle.health_index.specs.Room.{AddsFew, AddsForGroup, AddsLittle, AreApart, HasAsMuch, HasRoomForFirst, HasRoomForGroup, IsLaidAnew}
 use Rattle.health_planning.proofs.Few.{no_more_than}
 use Rattle.health_planning.proofs.ListedOnce.{slot_below}
 use Rattle.health_planning.proofs.MembersOfZoneList.{filled}
 use Rattle.health_planning.specs.Building.{AreGiven, AreNoted, HoldsSet, IsBuilt}
 use Rattle.health_planning.specs.Changes.{ref_in}
+use Rattle.health_planning.specs.DeltaRecord.{Delta}
 use Rattle.health_planning.specs.SetRefRecord.{SetRef}
 use Rattle.health_planning.specs.Tables.{HaveSlotsBelow}
 use Rattle.health_planning.specs.Wired.{group_seat, own_part, seat_of}
@@ -250,3 +251,27 @@ pub adds_by : (sets : ℕ) (before now after : Index) → before ≡ now → len
 adds_by sets before now after same refs members valves links =
     subst (λ (i : Index). AddsFew sets i after) same
     (record { refs = refs; members = members; valves = valves; links = links })
+
+pub adds_group : (zones : List Zone) (slots : ℕ) (delta : Delta) (before now after : Index) → before ≡ now
+    → AddsForGroup zones slots delta before after → AddsLittle zones slots delta now after
+adds_group zones slots delta before now after same adds =
+    subst (λ (i : Index). AddsLittle zones slots delta i after) same (inr adds)
+
+-- what a command adds to an index it adds to one that is the same
+pub adds_still : (zones : List Zone) (slots : ℕ) (delta : Delta) (before now after : Index) → before ≡ now
+    → AddsLittle zones slots delta before after → AddsLittle zones slots delta now after
+adds_still zones slots delta before now after same adds =
+    subst (λ (i : Index). AddsLittle zones slots delta i after) same adds
+
+-- what is room for a group of whose sets none has a valve of its own
+pub plain_room : (index : Index) (sets slots fed : ℕ) → fed ≡ 0 → HasRoomForFirst index sets slots
+    → HasRoomForGroup index fed sets slots
+plain_room index sets slots fed none room =
+    let below = room.valves.valves_below in
+    let links = room.valves.links_below in
+    record {
+      refs = room.refs;
+      members = room.members;
+      few = omega (arith, none);
+      valves = record { valves_below = below; links_below = omega (arith, none, links) };
+    }

@@ -29,6 +29,7 @@ pub use Rattle.health_standing.proofs.Alone
 pub use Rattle.health_standing.proofs.Bare
 pub use Rattle.health_standing.proofs.Beside
 pub use Rattle.health_standing.proofs.ByOne
+pub use Rattle.health_standing.proofs.Counted
 pub use Rattle.health_standing.proofs.FedAlike
 pub use Rattle.health_standing.proofs.Founded
 pub use Rattle.health_standing.proofs.GroupJoined

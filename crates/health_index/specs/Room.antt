@@ -3,11 +3,15 @@ use Rattle.std.specs.Prelude.{◌≡◌, ◌≢◌, ◌≤◌, ◌<◌, ◌+◌,
 use Rattle.health_valves.specs.Valves.{size_of, value_of}
 use Rattle.health_valves.specs.Laying.{HasRoomFor, links_of}
 use Rattle.health_valves.specs.declared.valves.Valves.{Valves}
+use Rattle.health_index.specs.Founding.{ComesFirstOwned}
 use Rattle.health_index.specs.Index.{Index}
+use Rattle.health_index.specs.Regrouping.{HasCome}
 use Rattle.health_planning.specs.Building.{AreGiven, HoldsSet}
+use Rattle.health_planning.specs.DeltaRecord.{Delta}
 use Rattle.health_planning.specs.SetRefRecord.{SetRef}
-use Rattle.health_planning.specs.Wired.{group_seat, seat_of}
+use Rattle.health_planning.specs.Wired.{group_seat, seat_of, valves_of}
 use Rattle.health_planning.specs.Zones.{Zone}
+use Rattle.zone_model.specs.Slotted.{Slotted}
 
 -- An index can be laid out anew over so many slots: 200 checks of at most 255 children, which are kept by
 -- two numbers more each, a valve for each set and for each group, one link into a group and two into a set.
@@ -47,6 +51,19 @@ pub record HasRoomForFirst (index : Index) (sets slots : ℕ) : Type 0 where
   pub refs : length index.refs < index.space.refs
   pub members : length index.members + sets ≤ index.space.members
   pub valves : HasValveRoomForTwo index.valves slots
+
+-- Fewer valves by one at least are there than over so many slots there can be, and fewer links by two more than so many.
+pub record HasValveRoomForGroup (valves : Valves) (fed slots : ℕ) : Type 0 where
+  pub valves_below : size_of valves + 1 < slots * 2 + 200
+  pub links_below : links_of valves + (fed + 2) ≤ slots * 3 + 51200
+
+-- One set more can have a valve of its own, and a group of so many sets that had none, which the valves of so many of
+-- them feed, 128 at most.
+pub record HasRoomForGroup (index : Index) (fed sets slots : ℕ) : Type 0 where
+  pub refs : length index.refs < index.space.refs
+  pub members : length index.members + sets ≤ index.space.members
+  pub few : fed ≤ 128
+  pub valves : HasValveRoomForGroup index.valves fed slots
 
 -- Only room changes: checks, their valves, what their checkers saw, their children, seats, listed sets, noted
 -- members and values stay, and so does how many valves and links there are.
@@ -98,3 +115,25 @@ pub record AddsFew (sets : ℕ) (before after : Index) : Type 0 where
   pub members : length after.members ≤ length before.members + sets
   pub valves : size_of after.valves ≤ size_of before.valves + 2
   pub links : links_of after.valves ≤ links_of before.valves + 2
+
+-- The same, but for so many links more.
+pub record AddsGroup (sets fed : ℕ) (before after : Index) : Type 0 where
+  pub refs : length after.refs ≤ length before.refs + 1
+  pub members : length after.members ≤ length before.members + sets
+  pub valves : size_of after.valves ≤ size_of before.valves + 2
+  pub links : links_of after.valves ≤ links_of before.valves + (fed + 2)
+
+-- So it is where the first evaluated alias came that leads to a group, and so many links more are there as this has sets
+-- with valves of their own.
+pub record AddsForGroup (zones : List Zone) (slots : ℕ) (delta : Delta) (before after : Index) : Type 0 where
+  pub ref : SetRef
+  pub members : List Slotted
+  pub feeders : List ℕ
+  pub come : HasCome delta ref
+  pub comes : ComesFirstOwned zones before.ids before.numbers before.seats before.valves ref members feeders
+  pub adds : AddsGroup slots (length (valves_of before.seats members)) before after
+
+-- Little more is there than was, or that.
+abbrev pub AddsLittle : List Zone → (slots : ℕ) → Delta → (before after : Index) → Type 0
+AddsLittle zones slots delta before after =
+    AddsFew slots before after ⊎ AddsForGroup zones slots delta before after

@@ -13,15 +13,15 @@ ghost use Rattle.health_index.specs.Following.{IsFollowed, IsOpenTo, IsWay};
 ghost use Rattle.health_index.specs.declared.following.Way.{Way};
 ghost use Rattle.health_index.specs.declared.following.Way.TheVariants as way;
 ghost use Rattle.health_index.specs.Kin.{kin_of};
-ghost use Rattle.health_index.specs.Founding.{ComesFirst, Founds};
+ghost use Rattle.health_index.specs.Founding.{ComesFirstOwned, FoundsOwned};
 ghost use Rattle.health_index.specs.Leading.{ComesToLead, GetsValve};
 ghost use Rattle.health_index.specs.Leaving.{AreLeft, SparesValves};
 ghost use Rattle.health_index.specs.Regrouping.{HasCome, HasGone, Joins, JoinsGroup, Leaves};
 ghost use Rattle.health_index.specs.Regrouping.{LeavesGroup, TellNoOther};
-ghost use Rattle.health_index.specs.Room.{AddsFew, HasAsMuch, HasRoom, HasRoomForAlias, HasRoomForFirst};
+ghost use Rattle.health_index.specs.Room.{AddsFew, AddsLittle, HasAsMuch, HasRoom, HasRoomForAlias, HasRoomForGroup};
 ghost use Rattle.health_index.specs.Unfounding.{LeavesLast, Unfounds};
 ghost use Rattle.health_index.specs.Unleading.{LeavesValve, Unleads};
-ghost use Rattle.health_planning.specs.Wired.{group_seat, is_watched, watched_of};
+ghost use Rattle.health_planning.specs.Wired.{group_seat, is_watched, valves_of, watched_of};
 ghost use Rattle.health_model.specs.Sound.{IsSound};
 ghost use Rattle.health_model.specs.Statuses.{Report};
 ghost use Rattle.health_planning.specs.Looking.{RefersTo};
@@ -35,16 +35,19 @@ use crate::following::{
 };
 use crate::index::HealthIndex;
 use crate::kin::has_kin;
-use crate::reserving::{has_room_for, has_room_for_one, has_room_for_two};
+use crate::reserving::{has_room_for, has_room_for_group, has_room_for_one};
 use crate::valve_numbers::spare_number;
 use health_check::CheckTable;
 use health_model::paths_end;
 use health_planning::{Delta, MOST_CHECKS, SetRef, Zones, number_at, seat_beside};
 use health_standing::{
-    alias_come, first_come, group_joined, group_left, last_left, note_those, one_come, one_gone,
-    own_in, push_alias, push_first, put_seat, seat_first, seat_in, seat_without, spares_valves,
-    valve_left,
+    alias_come, first_come, group_joined, group_left, last_left, note_those, note_told, one_come,
+    one_gone, own_in, own_valves_in, push_alias, push_first, put_seat, seat_first, seat_in,
+    seat_without, spares_valves, valve_left,
 };
+
+/// How many valves feed that of a group at most that gets one in place.
+const MOST_FED: usize = 128;
 
 impl HealthIndex {
     /// Takes a command by which no valve of a set or a group changes: sets went and came beside them, and
@@ -100,7 +103,7 @@ impl HealthIndex {
             → AreLeft before old zones.now.zones checks.now.checks delta.now → result ≡ true
             → StandsFor zones.now.zones checks.now.checks reports self.new }
         ensures zone { result ≡ true → delta.now.zone ≢ 0 }
-        ensures adds { AddsFew zones.now.slots self.old self.new }
+        ensures adds { AddsLittle zones.now.zones zones.now.slots delta.now self.old self.new }
         ensures stays { result ≡ false → self.new ≡ self.old }
         ensures left { (ref : SetRef) (valve : ℕ) → HasGone delta.now ref
             → LeavesGroup zones.now.zones self.old.seats self.old.valves ref valve
@@ -122,9 +125,10 @@ impl HealthIndex {
             → HasRoomForAlias self.old zones.now.slots
             → (result ≡ true) × GetsValve ref feeders self.old self.new }
         ensures founded { (ref : SetRef) (members : List Slotted) (feeders : List ℕ) → HasCome delta.now ref
-            → ComesFirst zones.now.zones self.old.ids self.old.numbers self.old.seats self.old.valves ref members feeders
-            → HasRoomForFirst self.old (length members) zones.now.slots
-            → (result ≡ true) × Founds ref members feeders self.old self.new }
+            → ComesFirstOwned zones.now.zones self.old.ids self.old.numbers self.old.seats self.old.valves ref members
+            feeders
+            → HasRoomForGroup self.old (length (valves_of self.old.seats members)) (length members) zones.now.slots
+            → (result ≡ true) × FoundsOwned ref members feeders self.old self.new }
     {
         zones.well_formed();
         if let Some(set) = one_gone(delta) {
@@ -224,6 +228,7 @@ impl HealthIndex {
         self.valves.unfeed(last.valve);
         self.valves.unfeed(last.group);
         seat_without(&mut self.seats, &self.members, set.slot, last.group);
+        note_told(&mut self.members, &self.seats);
         true
     }
 
@@ -313,7 +318,7 @@ impl HealthIndex {
     }
 
     /// Takes a command by which one evaluated alias alone came, of a group without a valve, the first one that
-    /// leads to a target group of whose sets nothing decides any.
+    /// leads to a target group, of whose sets each has a valve of its own, or nothing decides it.
     fn found_in(&mut self, zones: &Zones, checks: &CheckTable, delta: &Delta, alias: SetRef) -> bool
         requires room { HasRoom self.old zones.now.slots }
         requires sound { IsSound (watched_of zones.now.zones checks.now.checks) }
@@ -322,12 +327,13 @@ impl HealthIndex {
             → StandsFor before old reports self.old
             → AreLeft before old zones.now.zones checks.now.checks delta.now → result ≡ true
             → StandsFor zones.now.zones checks.now.checks reports self.new }
-        ensures adds { AddsFew zones.now.slots self.old self.new }
+        ensures adds { AddsLittle zones.now.zones zones.now.slots delta.now self.old self.new }
         ensures stays { result ≡ false → self.new ≡ self.old }
         ensures founded { (members : List Slotted) (feeders : List ℕ)
-            → ComesFirst zones.now.zones self.old.ids self.old.numbers self.old.seats self.old.valves alias members feeders
-            → HasRoomForFirst self.old (length members) zones.now.slots
-            → (result ≡ true) × Founds alias members feeders self.old self.new }
+            → ComesFirstOwned zones.now.zones self.old.ids self.old.numbers self.old.seats self.old.valves alias members
+            feeders
+            → HasRoomForGroup self.old (length (valves_of self.old.seats members)) (length members) zones.now.slots
+            → (result ≡ true) × FoundsOwned alias members feeders self.old self.new }
     {
         paths_end();
         zones.well_formed();
@@ -350,11 +356,16 @@ impl HealthIndex {
         if !has_room_for(&self.members, first.group.length) {
             return false;
         }
-        if !has_room_for_two(&self.valves, zones.slots()) {
+        let mut valves = [0; MOST_FED];
+        let Some(many) = own_valves_in(zones, &self.seats, first.group, &mut valves) else {
+            return false;
+        };
+        if !has_room_for_group(&self.valves, many, zones.slots()) {
             return false;
         }
         let told = self.valves.len() as u32 + 1;
-        push_first(&mut self.valves, first.check, first.group.length as u32);
+        let plain = (first.group.length - many) as u32;
+        push_first(&mut self.valves, first.check, &valves[..many], plain);
         self.refs.push_reserved(alias);
         note_those(zones, first.group, &mut self.members);
         seat_first(zones, first.group, alias.slot, told, &mut self.seats);

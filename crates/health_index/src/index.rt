@@ -15,17 +15,18 @@ ghost use Rattle.health_index.specs.Following.{AreSame, Follows};
 ghost use Rattle.health_index.specs.Following.{IsOpenTo, IsWay};
 ghost use Rattle.health_index.specs.declared.following.Way.{Way};
 ghost use Rattle.health_index.specs.Kin.{kin_of};
-ghost use Rattle.health_index.specs.Founding.{ComesFirst, Founds};
+ghost use Rattle.health_index.specs.Founding.{ComesFirst, ComesFirstOwned, Founds, FoundsOwned};
 ghost use Rattle.health_index.specs.Leading.{ComesToLead, GetsValve};
 ghost use Rattle.health_index.specs.Leaving.{AreLeft, KeepsValves, Moves, SparesValves};
 ghost use Rattle.health_index.specs.Regrouping.{HasCome, HasGone, Joins, JoinsGroup, Leaves};
 ghost use Rattle.health_index.specs.Regrouping.{LeavesGroup, TellNoOther};
-ghost use Rattle.health_index.specs.Room.{AddsFew, HasRoom, HasRoomForAlias, HasRoomForFirst};
+ghost use Rattle.health_index.specs.Room.{AddsLittle, HasRoom, HasRoomForAlias, HasRoomForFirst};
+ghost use Rattle.health_index.specs.Room.{HasRoomForGroup};
 ghost use Rattle.health_index.specs.Room.{IsLaidAnew, Keeps};
 ghost use Rattle.health_index.specs.Unfounding.{LeavesLast, Unfounds};
 ghost use Rattle.health_index.specs.Unleading.{LeavesValve, Unleads};
 ghost use Rattle.health_index.specs.Values.{WorksOut};
-ghost use Rattle.health_planning.specs.Wired.{watched_of};
+ghost use Rattle.health_planning.specs.Wired.{valves_of, watched_of};
 ghost use Rattle.health_model.specs.Nodes.{CheckNode, InCone, Node};
 ghost use Rattle.health_model.specs.Sound.{IsSound};
 ghost use Rattle.health_model.specs.Statuses.{Report, status, status_told};
@@ -76,8 +77,8 @@ pub struct HealthIndex {
     /// The sets with valves of their own, and those that went since all was laid out and had one. A slot to which
     /// a set came behind one that went can stand there twice.
     pub(crate) refs: Vec<SetRef>,
-    /// The sets of groups with valves, and since all was laid out those that went from such groups, or whose groups
-    /// have none any more, and such slots twice too. While all is laid out, the sets that had valves.
+    /// The sets of groups with valves, and those that went from such groups since all was laid out, or since a group
+    /// lost its valve; such a slot can stand there twice too. While all is laid out, the sets that had valves.
     pub(crate) members: Vec<SetRef>,
     /// What was planned: of use while all is laid out.
     pub(crate) blueprint: Blueprint,
@@ -230,11 +231,12 @@ impl HealthIndex {
     /// there any more, that group's valve does so too, and it costs a look at the seats of the sets that were noted in
     /// groups with valves besides. Where one alone came, of a group to which none leads, and another one leads to its
     /// target group, it costs a look at its group and at the first set of its target group: its valve comes behind all.
-    /// Where it is the first that leads to its target group, and nothing decides any set of that, it costs a look at
-    /// both groups: a valve for the target group and one for the alias come behind all. Valves that went on
+    /// Where it is the first that leads to its target group, and each set of that has a valve of its own, or nothing
+    /// decides it, it costs a look at both groups: a valve for the target group, which theirs feed, and one for the
+    /// alias come behind all. Valves that went on
     /// without a node take room until all are laid out anew, and so do the sets that had them in the list of sets with
-    /// valves, and the sets that were noted in groups with valves, each time that one was; where there is no room for
-    /// what comes, all is laid out anew.
+    /// valves, and the sets that went from groups with valves among those noted; where there is no room for what comes,
+    /// all is laid out anew.
     ///
     /// Where it tells of no zone, and no calculated check came, went or got other children: where
     /// checks have the numbers of those before, as after UpdateHealthCheck, or one of an endpoint came
@@ -253,8 +255,10 @@ impl HealthIndex {
             → AreLeft before old zones.now.zones checks.now.checks delta.now
             → StandsFor zones.now.zones checks.now.checks reports self.new }
 
-        // All is laid out anew, and nothing is left over; or little more is there than was.
-        ensures grows { IsLaidAnew zones.now.zones self.new ⊎ AddsFew zones.now.slots self.old self.new }
+        // All is laid out anew, and nothing is left over; or little more is there than was, but where the first alias came
+        // that leads to a group, so many links as this has sets with valves of their own.
+        ensures grows { IsLaidAnew zones.now.zones self.new
+            ⊎ AddsLittle zones.now.zones zones.now.slots delta.now self.old self.new }
 
         // Where the sets that went and came are of this kind, the index stays as it is.
         ensures same { KeepsValves zones.now.zones self.old.ids self.old.numbers self.old.seats
@@ -306,6 +310,14 @@ impl HealthIndex {
             → ComesFirst zones.now.zones self.old.ids self.old.numbers self.old.seats self.old.valves ref members feeders
             → HasRoomForFirst self.old (length members) zones.now.slots
             → Founds ref members feeders self.old self.new }
+
+        // It is so too where each set of the target group has a valve of its own, or nothing decides it: those valves
+        // feed that of the group then, at which the other sets are counted.
+        ensures founded_owned { (ref : SetRef) (members : List Slotted) (feeders : List ℕ) → HasCome delta.now ref
+            → ComesFirstOwned zones.now.zones self.old.ids self.old.numbers self.old.seats self.old.valves ref members
+            feeders
+            → HasRoomForGroup self.old (length (valves_of self.old.seats members)) (length members) zones.now.slots
+            → FoundsOwned ref members feeders self.old self.new }
 
         // Where calculated checks stay with their children, and those of endpoints do or one of them came or
         // went, nothing changes but the valves of checks, those above, and what the index has of that one.

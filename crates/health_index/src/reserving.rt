@@ -1,7 +1,7 @@
 //! Room in which all valves can be laid out anew.
 
 ghost use Rattle.std.specs.Prelude.{◌≡◌, ◌≤◌, ◌<◌, ◌+◌, ◌*◌, ◌^◌, ◌↔◌, ℕ, IsOk, IsTrue, OnOk, length, vec_capacity};
-ghost use Rattle.health_index.specs.Room.{HasValveRoom, HasValveRoomForTwo};
+ghost use Rattle.health_index.specs.Room.{HasValveRoom, HasValveRoomForGroup};
 ghost use Rattle.health_valves.specs.Valves.{Net, ValvesStandFor, size_of};
 ghost use Rattle.health_valves.specs.Laying.{HasRoomFor, links_of};
 ghost use Rattle.health_valves.specs.Pass.{IsIdle, MeetAll};
@@ -151,12 +151,13 @@ pub fn has_room_for(refs: &Vec<SetRef>, more: usize) -> bool
     more <= refs.capacity() - refs.len()
 }
 
-/// Whether there is room for two valves more with two links.
-pub fn has_room_for_two(valves: &Valves, slots: usize) -> bool
+/// Whether there is room for two valves more with so many links and two.
+pub fn has_room_for_group(valves: &Valves, fed: usize, slots: usize) -> bool
     requires few { slots ≤ 2 ^ 29 }
-    ensures { IsTrue result ↔ HasValveRoomForTwo valves.now slots }
+    requires few_fed { fed ≤ 128 }
+    ensures { IsTrue result ↔ HasValveRoomForGroup valves.now fed slots }
 {
-    valves.len() < slots * 2 + CHECKS - 1 && valves.links() <= slots * 3 + CHECK_LINKS - 2
+    valves.len() < slots * 2 + CHECKS - 1 && valves.links() <= slots * 3 + CHECK_LINKS - 2 - fed
 }
 
 /// Whether there was room each time.

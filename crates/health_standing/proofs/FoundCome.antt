@@ -3,7 +3,7 @@
 use Rattle.std.proofs.Common.{◌≡◌, ◌≢◌, ◌≤◌, ◌<◌, ◌+◌, ◌++◌, ℕ, suc, true, false, List, [], ◌∷◌, length, map, arith, refl, ap, sym, ◌∙◌, inl, inr, Some}
 use Rattle.std.specs.List.{Contains}
 use Rattle.std.specs.Option.{option_to_list}
-use Rattle.std.specs.Prelude.{◌⊎◌, slice_get}
+use Rattle.std.specs.Prelude.{◌⊎◌, Bool, nat_le, slice_get}
 use Rattle.std.proofs.lemmas.Bool.{cases_eq, cases_lt, false≢true}
 use mathlib.Core.Path.{subst}
 use Rattle.check_model.specs.Checks.{Checks}
@@ -18,7 +18,7 @@ use Rattle.health_standing.proofs.Slots.{slot_in}
 use Rattle.health_standing.proofs.Staying.{CameBy, WentBy, groups_led, node_now, target_now}
 use Rattle.health_standing.proofs.TwoMore.{at_first, at_last, behind, count_first, count_last, count_there, there}
 use Rattle.health_standing.specs.Index.{Index, IsOfOneGroup, Space, StandsFor, TellApart}
-use Rattle.health_standing.specs.Founding.{AreSeatedFirst, ComesFirst, HasPlainTarget, with_two_counts, with_two_more}
+use Rattle.health_standing.specs.Founding.{AreSeatedOwned, ComesFirstOwned, HasOwnTarget, with_two_counts, with_group}
 use Rattle.health_standing.specs.Leaving.{Moves}
 use Rattle.health_model.proofs.Members.{nothing_in}
 use Rattle.health_model.specs.Laws.{PathsEnd}
@@ -30,7 +30,7 @@ use Rattle.health_planning.proofs.Ending.{condition_seated, valves_end}
 use Rattle.health_planning.proofs.Groups.{alias_alone}
 use Rattle.health_planning.proofs.ListedOnce.{one_ref, own_is}
 use Rattle.health_planning.proofs.Members.{one_named}
-use Rattle.health_planning.specs.Building.{IsListed, TellsAll}
+use Rattle.health_planning.specs.Building.{IsListed, TellsOn}
 use Rattle.health_planning.specs.Changes.{ref_in}
 use Rattle.health_planning.specs.SetRefRecord.{SetRef}
 use Rattle.health_planning.specs.Tables.{HaveSlotsApart}
@@ -46,13 +46,21 @@ use Rattle.record_set.specs.declared.sets.Body.TheVariants as body
 use Rattle.zone_model.proofs.Among.{among_at}
 use Rattle.zone_model.specs.Slotted.{IsHere, Slotted}
 
+-- what a seat tells of a set's own it tells once more
+own_still : (seat : ℕ) → own_part seat ≡ own_part (own_part seat)
+own_still seat = by (nat_le seat 200) refl
+  where
+    by : (b : Bool) → nat_le seat 200 ≡ b → own_part seat ≡ own_part (own_part seat)
+    by true e = rw (e) refl
+    by false e = rw (e, e) refl
+
 module _ (before after : List Zone) (checks : Checks) (reports : List Report) (index : Index)
     (stands : StandsFor before checks reports index) (are_after : AreZones after)
     (slots_after : HaveSlotsApart after) (sound : IsSound (watched_of after checks))
     (removed added : List SetRef) (moves : Moves before after removed added) (ref : SetRef)
     (is_removed : removed ≡ []) (is_added : added ≡ ref ∷ []) (members : List Slotted)
-    (feeders : List ℕ) (comes : ComesFirst after index.ids index.numbers index.seats index.valves ref members feeders)
-    (now : List Seat) (moved : AreSeatedFirst ref.slot members (suc (size_of index.valves)) index.seats now) where
+    (feeders : List ℕ) (comes : ComesFirstOwned after index.ids index.numbers index.seats index.valves ref members feeders)
+    (now : List Seat) (moved : AreSeatedOwned ref.slot members (suc (size_of index.valves)) index.seats now) where
   abbrev seats : List Seat
   seats = index.seats
 
@@ -60,13 +68,17 @@ module _ (before after : List Zone) (checks : Checks) (reports : List Report) (i
   net = stands.net
 
   abbrev net_now : Net
-  net_now = with_two_more feeders stands.net
+  net_now = with_group (valves_of index.seats members) feeders stands.net
+
+  -- what feeds the valve of the group, and how many sets are counted at it
+  abbrev fed : List ℕ
+  fed = valves_of index.seats members
 
   abbrev sets : ℕ
-  sets = length members
+  sets = plain_among index.seats members
 
   abbrev own_now : ℕ → ℕ
-  own_now = with_two_counts (length members) stands.net.size stands.own
+  own_now = with_two_counts (plain_among index.seats members) stands.net.size stands.own
 
   abbrev ids : List ℕ
   ids = ids_of checks.list
@@ -78,10 +90,10 @@ module _ (before after : List Zone) (checks : Checks) (reports : List Report) (i
   size_is = stands.fits.laid.size
 
   cond_there : (n : ℕ) → n < net.size → net_now.condition n ≡ net.condition n
-  cond_there n low = there feeders sets net stands.own n low
+  cond_there n low = there fed feeders sets net stands.own n low
 
   own_there_now : (n : ℕ) → n < net.size → own_now n ≡ stands.own n
-  own_there_now n low = count_there feeders sets net stands.own n low
+  own_there_now n low = count_there fed feeders sets net stands.own n low
 
   -- ---- seats
 
@@ -138,87 +150,85 @@ module _ (before after : List Zone) (checks : Checks) (reports : List Report) (i
 
   -- ---- the target group
 
-  abbrev t : HasPlainTarget after seats ref.zone comes.set members
+  abbrev t : HasOwnTarget after seats ref comes.set members
   t = comes.its_target
 
   -- the alias is none of it
   member_other : (p : Slotted) → IsHere members p → p.slot ≢ ref.slot
-  member_other p m e =
-      let set = its_set ref.zone p (t.are.here p m) e in
-      false≢true (sym (t.bare p m).0 ∙ ap is_watched set ∙ watched_on comes.set comes.on)
+  member_other p m = (t.own p m).0
 
-  member_set : (p : Slotted) → IsHere members p → set_seat now p.slot ≡ 0
-  member_set p m = moved.set p m (member_other p m)
+  -- what it tells of the set is what it told
+  sets_kept : (s : ℕ) → s ≢ ref.slot → TellsOn seats now s
+  sets_kept s apart = moved.sets s apart
 
   member_group : (p : Slotted) → IsHere members p → group_seat now p.slot ≡ suc net.size
   member_group p m = moved.group p m (member_other p m) ∙ ap suc size_is
 
-  -- what told something before tells it still
-  abbrev Tells : (s : ℕ) → Type 0
-  Tells s = (set_seat seats s ≢ 0) ⊎ (group_seat seats s ≢ 0)
+  -- a seat that told something is not that of the alias
+  own_apart : (s valve : ℕ) → seat_of seats s ≡ suc valve → s ≢ ref.slot
+  own_apart s valve is e = some_seat (set_seat seats s) valve is (ap (set_seat seats) e ∙ comes.bare)
 
-  tells_apart : (s : ℕ) → Tells s → s ≢ ref.slot
-  tells_apart s (inl some) e = some (ap (set_seat seats) e ∙ comes.bare)
-  tells_apart s (inr some) e = some (ap (group_seat seats) e ∙ comes.none)
+  group_apart : (s valve : ℕ) → group_seat seats s ≡ suc valve → s ≢ ref.slot
+  group_apart s valve is e = (let none = ap (group_seat seats) e ∙ comes.none in omega (arith, none, is))
 
-  tells_other : (s : ℕ) → Tells s → HasSlot members s → ⊥
-  tells_other s (inl some) (p, m, e) = some (ap (set_seat seats) (sym e) ∙ (t.bare p m).1.0)
-  tells_other s (inr some) (p, m, e) = some (ap (group_seat seats) (sym e) ∙ (t.bare p m).1.1)
+  -- and one that told the valve of a group is none of this one
+  group_kept_at : (s valve : ℕ) → group_seat seats s ≡ suc valve → group_seat now s ≡ suc valve
+  group_kept_at s valve is =
+      moved.others s (group_apart s valve is)
+      (λ h. let none = ap (group_seat seats) (sym h.2) ∙ (t.own h.0 h.1).1.1 in omega (arith, none, is)) ∙ is
 
-  kept : (s : ℕ) → Tells s → TellsAll seats now s
-  kept s tells = moved.others s (tells_apart s tells) (tells_other s tells)
+  own_kept : (s valve : ℕ) → seat_of seats s ≡ suc valve → seat_of now s ≡ suc valve
+  own_kept s valve is = ap own_part (sets_kept s (own_apart s valve is)).0 ∙ is
 
-  own_tells : (s valve : ℕ) → seat_of seats s ≡ suc valve → Tells s
-  own_tells s valve is = inl (some_seat (set_seat seats s) valve is)
-
-  group_tells : (s valve : ℕ) → group_seat seats s ≡ suc valve → Tells s
-  group_tells s valve is = inr (λ none. omega (arith, none, is))
-
-  -- a slot is that of the alias, or of a set of the group, or its seat stays
+  -- a slot is that of the alias, or of a set of the group, or its seat tells of a group what it told
   record IsMember (s : ℕ) : Type 0 where
     p : Slotted
     m : IsHere members p
     at : p.slot ≡ s
 
-  slot_kind : (s : ℕ) → (s ≡ ref.slot) ⊎ (IsMember s ⊎ TellsAll seats now s)
+  record Stays (s : ℕ) : Type 0 where
+    apart : s ≢ ref.slot
+    group : group_seat now s ≡ group_seat seats s
+
+  slot_kind : (s : ℕ) → (s ≡ ref.slot) ⊎ (IsMember s ⊎ Stays s)
   slot_kind s = elim (cases_eq s ref.slot) [
     | inl e ↦ inl e
     | inr apart ↦ inr (elim (slot_in members s) [
       | inl has ↦ inl (record { p = has.0; m = has.1; at = has.2 })
-      | inr none ↦ inr (moved.others s apart (λ h. none h.0 h.1 h.2))
+      | inr none ↦ inr (record { apart = apart; group = moved.others s apart (λ h. none h.0 h.1 h.2) })
     ])
   ]
 
   -- ---- no other valve changes
 
-  valves_kept : (those : List Slotted) → ((p : Slotted) → IsHere those p → TellsAll seats now p.slot)
+  valves_kept : (those : List Slotted) → ((p : Slotted) → IsHere those p → p.slot ≢ ref.slot)
       → valves_of now those ≡ valves_of seats those
-  valves_kept [] stay = refl
-  valves_kept (p ∷ those) stay =
-      ap (λ (n : ℕ). with_valve n (valves_of now those)) (ap own_part (stay p (inl refl)).0.0)
-      ∙ ap (with_valve (seat_of seats p.slot)) (valves_kept those (λ q m. stay q (inr m)))
+  valves_kept [] apart = refl
+  valves_kept (p ∷ those) apart =
+      ap (λ (n : ℕ). with_valve n (valves_of now those)) (ap own_part (sets_kept p.slot (apart p (inl refl))).0)
+      ∙ ap (with_valve (seat_of seats p.slot)) (valves_kept those (λ q m. apart q (inr m)))
 
-  plain_kept : (those : List Slotted) → ((p : Slotted) → IsHere those p → TellsAll seats now p.slot)
+  plain_kept : (those : List Slotted) → ((p : Slotted) → IsHere those p → p.slot ≢ ref.slot)
       → plain_among now those ≡ plain_among seats those
-  plain_kept [] stay = refl
-  plain_kept (p ∷ those) stay =
-      let one = ap (λ (n : ℕ). plain (own_part n)) (stay p (inl refl)).0.0 in
-      let rest = plain_kept those (λ q m. stay q (inr m)) in
+  plain_kept [] apart = refl
+  plain_kept (p ∷ those) apart =
+      let one = ap (λ (n : ℕ). plain (own_part n)) (sets_kept p.slot (apart p (inl refl))).0 in
+      let rest = plain_kept those (λ q m. apart q (inr m)) in
       omega (arith, one, rest)
 
   group_kept : (those : List Slotted) (h : ℕ) → IsGroupValve seats net stands.own those h
       → IsGroupValve now net_now own_now those h
   group_kept those h w =
-      let stay : (p : Slotted) → IsHere those p → TellsAll seats now p.slot = λ p m. kept p.slot (group_tells p.slot h (w.each p m)) in
+      let apart : (p : Slotted) → IsHere those p → p.slot ≢ ref.slot = λ p m. group_apart p.slot h (w.each p m) in
       let low = w.within in
       record {
-        seat = (w.seat.0, (w.seat.1.0, (kept w.seat.0 (group_tells w.seat.0 h w.seat.1.1)).1 ∙ w.seat.1.1));
-        each = λ p m. (stay p m).1 ∙ w.each p m;
+        seat = (w.seat.0, (w.seat.1.0, group_kept_at w.seat.0 h w.seat.1.1));
+        each = λ p m. group_kept_at p.slot h (w.each p m);
         behind = w.behind;
         within = omega (arith, low);
         condition = cond_there h low ∙ w.condition
-            ∙ ap (λ (l : List ℕ). record { need = 1; inverted = false; feeders = l }) (sym (valves_kept those stay));
-        its_own = own_there_now h low ∙ w.its_own ∙ sym (plain_kept those stay);
+            ∙ ap (λ (l : List ℕ). record { need = 1; inverted = false; feeders = l }) (sym (valves_kept those apart));
+        its_own = own_there_now h low ∙ w.its_own ∙ sym (plain_kept those apart);
       }
 
   target_kept : (zone : ℕ) (rtype : RType) (its : Body) (target : List ℕ)
@@ -234,7 +244,7 @@ module _ (before after : List Zone) (checks : Checks) (reports : List Report) (i
       → IsValveFor after checks.list index.numbers now net_now own_now valve node
   node_kept valve (CheckNode id) is = is
   node_kept valve (SetNode zone set) (s, (here_now, seat)) =
-      (s, (here_now, ap own_part (kept s (own_tells s valve seat)).0.0 ∙ seat))
+      (s, (here_now, own_kept s valve seat))
   node_kept valve (GroupNode zone name rtype) (those, (are, w)) =
       (those, (are, group_kept those valve w))
 
@@ -244,21 +254,6 @@ module _ (before after : List Zone) (checks : Checks) (reports : List Report) (i
   first_in [] some = absurd (omega (arith, some))
   first_in (p ∷ those) some = (p, refl)
 
-  none_feeds : (those : List Slotted) → ((p : Slotted) → IsHere those p → set_seat now p.slot ≡ 0)
-      → valves_of now those ≡ []
-  none_feeds [] bare = refl
-  none_feeds (p ∷ those) bare =
-      ap (λ (n : ℕ). with_valve (own_part n) (valves_of now those)) (bare p (inl refl))
-      ∙ none_feeds those (λ q m. bare q (inr m))
-
-  all_plain : (those : List Slotted) → ((p : Slotted) → IsHere those p → set_seat now p.slot ≡ 0)
-      → plain_among now those ≡ length those
-  all_plain [] bare = refl
-  all_plain (p ∷ those) bare =
-      let one = ap (λ (n : ℕ). plain (own_part n)) (bare p (inl refl)) in
-      let rest = all_plain those (λ q m. bare q (inr m)) in
-      omega (arith, one, rest)
-
   founded : IsGroupValve now net_now own_now members net.size
   founded =
       let f = first_in members t.some in
@@ -267,9 +262,9 @@ module _ (before after : List Zone) (checks : Checks) (reports : List Report) (i
         each = member_group;
         behind = many;
         within = omega arith;
-        condition = at_first feeders sets net stands.own
-            ∙ ap (λ (l : List ℕ). record { need = 1; inverted = false; feeders = l }) (sym (none_feeds members member_set));
-        its_own = count_first feeders sets net stands.own ∙ sym (all_plain members member_set);
+        condition = at_first fed feeders sets net stands.own
+            ∙ ap (λ (l : List ℕ). record { need = 1; inverted = false; feeders = l }) (sym (valves_kept members member_other));
+        its_own = count_first fed feeders sets net stands.own ∙ sym (plain_kept members member_other);
       }
 
   on : (comes.set.body ≡ body.Alias t.name true) × (comes.set.rtype ≡ t.rtype)
@@ -298,27 +293,27 @@ module _ (before after : List Zone) (checks : Checks) (reports : List Report) (i
         within = omega arith;
         target = net.size ∷ [];
         its_target = its_target;
-        condition = at_last feeders sets net stands.own ∙ ap (λ (l : List ℕ). set_condition (l ++ net.size ∷ [])) (comes.are
+        condition = at_last fed feeders sets net stands.own ∙ ap (λ (l : List ℕ). set_condition (l ++ net.size ∷ [])) (comes.are
             ∙ ap (λ (l : List ℕ). map (valve_with l index.numbers) (option_to_list comes.set.check)) stands.ids);
-        its_own = count_last feeders sets net stands.own;
+        its_own = count_last fed feeders sets net stands.own;
       },
     );
   }
 
-  seated_kept : (zone : ℕ) (p : Slotted) → IsHere (placed_in before zone) p → TellsAll seats now p.slot
+  seated_kept : (zone : ℕ) (p : Slotted) → IsHere (placed_in before zone) p → TellsOn seats now p.slot
       → IsSeated after ids index.numbers now net_now own_now zone p
   seated_kept zone p here_was tells =
       let s = stands.wired.its_sets zone p here_was in
       record {
-        plain = λ is. tells.0.0 ∙ s.plain is;
-        told = λ watched. tells.0.1 ∙ s.told watched;
+        plain = λ is. tells.0 ∙ s.plain is;
+        told = λ watched. tells.1 ∙ s.told watched;
         valved = λ watched. elim (s.valved watched) [
-          | inl alone ↦ inl (alone.0, (alone.1.0, tells.0.0 ∙ alone.1.1))
+          | inl alone ↦ inl (alone.0, (alone.1.0, tells.0 ∙ alone.1.1))
           | inr v ↦ (
               let low = v.2.within in
               inr (
                 v.0,
-                ap own_part tells.0.0 ∙ v.1,
+                ap own_part tells.0 ∙ v.1,
                 record {
                   behind = v.2.behind;
                   within = omega (arith, low);
@@ -334,16 +329,6 @@ module _ (before after : List Zone) (checks : Checks) (reports : List Report) (i
         ];
       }
 
-  -- a set in the slot of one of the group is that one
-  same_member : (zone : ℕ) (p q : Slotted) → IsHere (placed_in after zone) p → IsHere members q → q.slot ≡ p.slot
-      → p.set ≡ q.set
-  same_member zone p q here_now m e =
-      let one = one_ref after (ref_in zone p) (ref_in ref.zone q) p.set q.set slots_after here_now (t.are.here q m) (sym e) in
-      let z : zone ≡ ref.zone = ap (λ (r : SetRef). r.zone) one in
-      one_named after (ref_in ref.zone q) p.set q.set are_after
-      (subst (λ (n : ℕ). IsHere (placed_in after ref.zone) (record { slot = n; set = p.set })) (sym e)
-      (subst (λ (n : ℕ). IsHere (placed_in after n) p) z here_now)) (t.are.here q m)
-
   seated_now : (zone : ℕ) (p : Slotted) → IsHere (placed_in after zone) p
       → IsSeated after ids index.numbers now net_now own_now zone p
   seated_now zone p here_now = elim (cases_eq p.slot ref.slot) [
@@ -351,17 +336,7 @@ module _ (before after : List Zone) (checks : Checks) (reports : List Report) (i
         subst (λ (z : ℕ). IsSeated after ids index.numbers now net_now own_now z p) (sym (its_zone zone p here_now e))
         (subst (IsSeated after ids index.numbers now net_now own_now ref.zone)
         (slotted_is p ref.slot comes.set e (its_set zone p here_now e)) alias_seated)
-    | inr apart ↦ elim (slot_in members p.slot) [
-      | inl has ↦ (
-          let off : is_watched p.set ≡ false = ap is_watched (same_member zone p has.0 here_now has.1 has.2) ∙ (t.bare has.0 has.1).0 in
-          record {
-            plain = λ is. ap (set_seat now) (sym has.2) ∙ member_set has.0 has.1;
-            told = λ watched. absurd (false≢true (sym off ∙ watched));
-            valved = λ watched. absurd (false≢true (sym off ∙ watched));
-          }
-          )
-      | inr none ↦ seated_kept zone p (was_here zone p here_now apart) (moved.others p.slot apart (λ h. none h.0 h.1 h.2))
-    ]
+    | inr apart ↦ seated_kept zone p (was_here zone p here_now apart) (sets_kept p.slot apart)
   ]
 
   -- ---- seats that tell a valve
@@ -375,12 +350,9 @@ module _ (before after : List Zone) (checks : Checks) (reports : List Report) (i
   -- a seat that tells a valve of a set's own is that of the alias, or told it before
   own_was : (s valve : ℕ) → seat_of now s ≡ suc valve
       → ((s ≡ ref.slot) × (valve ≡ suc net.size)) ⊎ (seat_of seats s ≡ suc valve)
-  own_was s valve is = elim (slot_kind s) [
+  own_was s valve is = elim (cases_eq s ref.slot) [
     | inl e ↦ inl (e, (let its = ap (seat_of now) e ∙ its_seat in omega (arith, its, is)))
-    | inr (inl has) ↦
-        let none = ap (λ (n : ℕ). own_part (set_seat now n)) (sym has.at) ∙ ap own_part (member_set has.p has.m) in
-        absurd (omega (arith, none, is))
-    | inr (inr tells) ↦ inr (sym (ap own_part tells.0.0) ∙ is)
+    | inr apart ↦ inr (sym (ap own_part (sets_kept s apart).0) ∙ is)
   ]
 
   -- one that tells the valve of a group is that of a set of the new one, or told it before
@@ -391,7 +363,7 @@ module _ (before after : List Zone) (checks : Checks) (reports : List Report) (i
     | inr (inl has) ↦
         let told = ap (group_seat now) (sym has.at) ∙ member_group has.p has.m in
         inl (has, omega (arith, told, is))
-    | inr (inr tells) ↦ inr (sym tells.1 ∙ is)
+    | inr (inr tells) ↦ inr (sym tells.group ∙ is)
   ]
 
   abbrev one_group_kept : (valve : ℕ) → valve < net.size → IsOfOneGroup after seats valve → IsOfOneGroup after now valve
@@ -403,7 +375,7 @@ module _ (before after : List Zone) (checks : Checks) (reports : List Report) (i
     are = x.are;
     led = x.led;
     behind = x.behind;
-    each = λ p m. (kept p.slot (group_tells p.slot valve (x.each p m))).1 ∙ x.each p m;
+    each = λ p m. group_kept_at p.slot valve (x.each p m);
     only = λ other tells. elim (group_was other valve tells) [
       | inl new ↦ (let last = new.1 in absurd (omega (arith, last, low)))
       | inr was ↦ x.only other was
@@ -456,11 +428,10 @@ module _ (before after : List Zone) (checks : Checks) (reports : List Report) (i
           (groups_led before after stands.are_zones are_after removed added moves seats by_went by_came s valve
           was x (x.led.0, (still_here x.zone x.led.0 x.led.1.0, x.led.1.1)))
     ];
-    here = λ s some. elim (slot_kind s) [
+    here = λ s some. elim (cases_eq s ref.slot) [
       | inl e ↦ (ref, (comes.set, (comes.names, sym e)))
-      | inr (inl has) ↦ absurd (some (ap (set_seat now) (sym has.at) ∙ member_set has.p has.m))
-      | inr (inr tells) ↦
-          let h = stands.told.here s (λ none. some (tells.0.0 ∙ none)) in
+      | inr apart ↦
+          let h = stands.told.here s (λ none. some ((sets_kept s apart).0 ∙ none)) in
           let p : Slotted = record { slot = h.0.slot; set = h.1.0 } in
           (h.0, (h.1.0, (still_here h.0.zone p h.1.1.0, h.1.1.1)))
     ];
@@ -507,10 +478,10 @@ module _ (before after : List Zone) (checks : Checks) (reports : List Report) (i
 
   -- what is fed is there
   fed_there : (x y : ℕ) → Feeds net_now x y → y < net_now.size
-  fed_there x y fed = elim (cases_lt y (net.size + 1 + 1)) [
+  fed_there x y feeds = elim (cases_lt y (net.size + 1 + 1)) [
     | inl low ↦ low
     | inr past ↦
-        absurd (nothing_in x (subst (λ (c : Condition). Contains c.feeders x) (behind feeders sets net stands.own y (omega (arith, past))) fed))
+        absurd (nothing_in x (subst (λ (c : Condition). Contains c.feeders x) (behind fed feeders sets net stands.own y (omega (arith, past))) feeds))
   ]
 
   pub ends_founded : PathsEnd → HasEnds net_now
@@ -527,7 +498,7 @@ module _ (before after : List Zone) (checks : Checks) (reports : List Report) (i
         let one = one_ref after (ref_in zone p) ref p.set comes.set slots_after here_now comes.names new.0 in
         (length index.refs, last_there index.refs ref ∙ ap Some (sym one))
     | inr was ↦
-        let l = stands.listed zone valve p (was_here zone p here_now (tells_apart p.slot (own_tells p.slot valve was))) was in
+        let l = stands.listed zone valve p (was_here zone p here_now (own_apart p.slot valve was)) was in
         (l.0, still_there index.refs ref (ref_in zone p) l.0 l.1)
   ]
 
@@ -535,10 +506,12 @@ module _ (before after : List Zone) (checks : Checks) (reports : List Report) (i
   members_now s valve is = elim (slot_kind s) [
     | inl e ↦ (let none = ap (group_seat now) e ∙ moved.none in absurd (omega (arith, none, is)))
     | inr (inl has) ↦
-        let none = ap (set_seat now) (sym has.at) ∙ member_set has.p has.m in
-        none ∙ sym (ap own_part none)
+        let kept = ap (set_seat now) (sym has.at) ∙ (sets_kept has.p.slot (member_other has.p has.m)).0 in
+        let own = kept ∙ (t.own has.p has.m).1.0 in
+        own ∙ own_still (set_seat seats has.p.slot) ∙ sym (ap own_part own)
     | inr (inr tells) ↦
-        tells.0.0 ∙ stands.wired.its_members s valve (sym tells.1 ∙ is) ∙ sym (ap own_part tells.0.0)
+        let kept = (sets_kept s tells.apart).0 in
+        kept ∙ stands.wired.its_members s valve (sym tells.group ∙ is) ∙ sym (ap own_part kept)
   ]
 
   groups_now : (s valve : ℕ) → group_seat now s ≡ suc valve → valve < net_now.size

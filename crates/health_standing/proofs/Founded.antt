@@ -1,16 +1,17 @@
 -- How an index is left by a command by which the first evaluated alias comes that leads to a group.
-use Rattle.std.proofs.Common.{◌≡◌, ◌≤◌, ◌<◌, ◌+◌, ◌++◌, ℕ, zero, suc, List, [], ◌∷◌, length, arith, refl, ap, sym, ◌∙◌, inl, inr, Some}
+use Rattle.std.proofs.Common.{◌≡◌, ◌≢◌, ◌≤◌, ◌<◌, ◌+◌, ◌++◌, ℕ, zero, suc, List, [], ◌∷◌, length, arith, refl, ap, sym, ◌∙◌, inl, inr, Some}
 use Rattle.std.specs.Prelude.{slice_get}
 use Rattle.std.proofs.lemmas.Bool.{cases_eq, false≢true}
 use mathlib.Core.Path.{subst}
 use Rattle.check_model.specs.Checks.{Checks}
 use Rattle.health_standing.proofs.ByOne.{at_first}
+use Rattle.health_standing.proofs.Counted.{all_plain, none_own}
 use Rattle.health_standing.proofs.FoundCome.{ends_founded, founded_stands}
 use Rattle.health_standing.proofs.Moving.{moved}
 use Rattle.health_standing.proofs.Regrouped.{watched_on}
 use Rattle.health_standing.proofs.Slots.{slot_in}
 use Rattle.health_standing.proofs.TwoMore.{there}
-use Rattle.health_standing.specs.Founding.{AreSeatedFirst, ComesFirst, refs_of, with_two_counts, with_two_more}
+use Rattle.health_standing.specs.Founding.{AreSeatedOwned, ComesFirst, ComesFirstOwned, Founds, FoundsOwned, refs_of, with_group, with_two_counts}
 use Rattle.health_standing.specs.Index.{Index, IsIntact, Space, StandsFor}
 use Rattle.health_standing.specs.Leading.{ComesToLead}
 use Rattle.health_standing.specs.Leaving.{AreLeft, KeepsValves, SparesValves}
@@ -27,8 +28,8 @@ use Rattle.health_planning.specs.SetRefRecord.{SetRef}
 use Rattle.health_planning.specs.Tables.{HaveSlotsApart}
 use Rattle.health_planning.proofs.Wiring.{first_here, member_there}
 use Rattle.health_planning.specs.Telling.{evaluates, target_of}
-use Rattle.health_planning.specs.Wired.{AreMembers, group_seat, is_watched, own_part, set_seat, watched_of}
-use Rattle.health_planning.specs.Zones.{AreZones, Zone}
+use Rattle.health_planning.specs.Wired.{AreMembers, group_seat, is_watched, own_part, plain_among, set_seat, valves_of, watched_of}
+use Rattle.health_planning.specs.Zones.{AreZones, Zone, placed_in}
 use Rattle.health_planning.specs.declared.seats.Seat.{Seat}
 use Rattle.health_valves.specs.Pass.{IsIdle, MeetAll}
 use Rattle.health_valves.specs.Valves.{Condition, HasEnds, Net, ValvesStandFor, size_of}
@@ -62,20 +63,14 @@ tell_noted zone (q ∷ those) p (inr later) =
     (suc t.0, (t.1.0, (t.1.1.0, t.1.1.1)))
 
 given_founded : (refs noted listed noted_now : List SetRef) (seats now : List Seat) (ref : SetRef) (members : List Slotted)
-    (told : ℕ) → AreSeatedFirst ref.slot members told seats now → listed ≡ refs ++ ref ∷ []
+    (told : ℕ) → AreSeatedOwned ref.slot members told seats now → listed ≡ refs ++ ref ∷ []
     → noted_now ≡ noted ++ refs_of ref.zone members → AreGiven refs noted seats → AreGiven listed noted_now now
 given_founded refs noted listed noted_now seats now ref members told seated is is_noted given = record {
   sets = λ s some. subst (λ (l : List SetRef). TellSlot l s) (sym is) (elim (cases_eq s ref.slot) [
     | inl e ↦ (length refs, (ref, (last_there refs ref, sym e)))
-    | inr apart ↦ elim (slot_in members s) [
-      | inl has ↦
-          absurd (some (ap (λ (n : ℕ). own_part (set_seat now n)) (sym has.2)
-          ∙ ap own_part (seated.set has.0 has.1 (λ e. apart (sym has.2 ∙ e)))))
-      | inr none ↦
-          let o = seated.others s apart (λ h. none h.0 h.1 h.2) in
-          let t = given.sets s (λ bare. some (ap own_part o.0.0 ∙ bare)) in
-          (t.0, (t.1.0, (still_there refs ref t.1.0 t.0 t.1.1.0, t.1.1.1)))
-    ]
+    | inr apart ↦
+        let t = given.sets s (λ bare. some (ap own_part (seated.sets s apart).0 ∙ bare)) in
+        (t.0, (t.1.0, (still_there refs ref t.1.0 t.0 t.1.1.0, t.1.1.1)))
   ]);
   groups = λ s some. subst (λ (l : List SetRef). TellSlot l s) (sym is_noted) (elim (cases_eq s ref.slot) [
     | inl e ↦ absurd (some (ap (group_seat now) e ∙ seated.none))
@@ -85,27 +80,27 @@ given_founded refs noted listed noted_now seats now ref members told seated is i
           (length noted + t.0, (t.1.0, (noted_behind noted (refs_of ref.zone members) t.0 t.1.0 t.1.1.0, t.1.1.1 ∙ has.2)))
       | inr none ↦
           let o = seated.others s apart (λ h. none h.0 h.1 h.2) in
-          let t = given.groups s (λ bare. some (o.1 ∙ bare)) in
+          let t = given.groups s (λ bare. some (o ∙ bare)) in
           (t.0, (t.1.0, (still_noted noted (refs_of ref.zone members) t.0 t.1.0 t.1.1.0, t.1.1.1)))
     ]
   ]);
 }
 
 -- what nothing fed, nothing feeds
-still_alone : (net : Net) (own : ℕ → ℕ) (feeders : List ℕ) (sets valve : ℕ) → valve < net.size
-    → (net.condition valve).feeders ≡ [] → ((with_two_more feeders net).condition valve).feeders ≡ []
-still_alone net own feeders sets valve low alone =
-    ap (λ (c : Condition). c.feeders) (there feeders sets net own valve low) ∙ alone
+still_alone : (net : Net) (own : ℕ → ℕ) (fed feeders : List ℕ) (sets valve : ℕ) → valve < net.size
+    → (net.condition valve).feeders ≡ [] → ((with_group fed feeders net).condition valve).feeders ≡ []
+still_alone net own fed feeders sets valve low alone =
+    ap (λ (c : Condition). c.feeders) (there fed feeders sets net own valve low) ∙ alone
 
-pub whole_founded : (index : Index) (w : IsIntact index) (valves : Valves) (feeders : List ℕ) (now : List Seat)
+pub whole_founded : (index : Index) (w : IsIntact index) (valves : Valves) (fed feeders : List ℕ) (sets : ℕ) (now : List Seat)
     (ref : SetRef) (members : List Slotted) (listed noted : List SetRef) (space : Space) → 200 ≤ size_of index.valves
-    → ValvesStandFor (with_two_more feeders w.net) (with_two_counts (length members) w.net.size w.own) valves
-    → IsIdle valves → AreSeatedFirst ref.slot members (suc (size_of index.valves)) index.seats now
+    → ValvesStandFor (with_group fed feeders w.net) (with_two_counts sets w.net.size w.own) valves
+    → IsIdle valves → AreSeatedOwned ref.slot members (suc (size_of index.valves)) index.seats now
     → listed ≡ index.refs ++ ref ∷ [] → noted ≡ index.members ++ refs_of ref.zone members
     → IsIntact (record index { seats = now; refs = listed; members = noted; valves = valves; space = space })
-whole_founded index w valves feeders now ref members listed noted space many fits idle seated is is_noted = record {
-  net = with_two_more feeders w.net;
-  own = with_two_counts (length members) w.net.size w.own;
+whole_founded index w valves fed feeders sets now ref members listed noted space many fits idle seated is is_noted = record {
+  net = with_group fed feeders w.net;
+  own = with_two_counts sets w.net.size w.own;
   fits = fits;
   idle = idle;
   as_many = w.as_many;
@@ -118,22 +113,17 @@ whole_founded index w valves feeders now ref members listed noted space many fit
         let its = seated.own in
         let size = w.fits.laid.size in
         omega (arith, told, its, size, tells)
-    | inr apart ↦ elim (slot_in members s) [
-      | inl has ↦
-          let none = ap (set_seat now) (sym has.2) ∙ seated.set has.0 has.1 (λ e. apart (sym has.2 ∙ e)) in
-          absurd (omega (arith, none, tells))
-      | inr none ↦
-          let low = w.seated s valve (sym (seated.others s apart (λ h. none h.0 h.1 h.2)).0.0 ∙ tells) in
-          omega (arith, low)
-    ]
+    | inr apart ↦
+        let low = w.seated s valve (sym (seated.sets s apart).0 ∙ tells) in
+        omega (arith, low)
   ];
   given = given_founded index.refs index.members listed noted index.seats now ref members (suc (size_of index.valves)) seated is is_noted w.given;
   alone = λ place valve its at numbered.
-      still_alone w.net w.own feeders (length members) valve (w.within place valve numbered) (w.alone place valve its at numbered);
+      still_alone w.net w.own fed feeders sets valve (w.within place valve numbered) (w.alone place valve its at numbered);
   spare = λ valve free.
       let low = free.0 in
       let size = w.fits.laid.size in
-      still_alone w.net w.own feeders (length members) valve (omega (arith, low, size, many)) (w.spare valve free);
+      still_alone w.net w.own fed feeders sets valve (omega (arith, low, size, many)) (w.spare valve free);
 }
 
 -- ---- what an index is then
@@ -154,13 +144,15 @@ pub founded_by : (before after : List Zone) (old new : Checks) (reports : List R
     → IsSound (watched_of after new) → PathsEnd → (valves : Valves) (space : Space) (now : List Seat)
     (listed noted : List SetRef) (ref : SetRef) (members : List Slotted) (feeders : List ℕ)
     → ((net : Net) (own : ℕ → ℕ) → ValvesStandFor net own index.valves
-    → ValvesStandFor (with_two_more feeders net) (with_two_counts (length members) net.size own) valves)
-    → ((net : Net) (own : ℕ → ℕ) → ValvesStandFor net own index.valves → HasEnds (with_two_more feeders net)
-    → MeetAll net own index.valves
-    → MeetAll (with_two_more feeders net) (with_two_counts (length members) net.size own) valves)
+    → ValvesStandFor (with_group (valves_of index.seats members) feeders net)
+    (with_two_counts (plain_among index.seats members) net.size own) valves)
+    → ((net : Net) (own : ℕ → ℕ) → ValvesStandFor net own index.valves
+    → HasEnds (with_group (valves_of index.seats members) feeders net) → MeetAll net own index.valves
+    → MeetAll (with_group (valves_of index.seats members) feeders net)
+    (with_two_counts (plain_among index.seats members) net.size own) valves)
     → IsIdle valves → AreLeft before old after new delta → HasCome delta ref
-    → ComesFirst after index.ids index.numbers index.seats index.valves ref members feeders
-    → AreSeatedFirst ref.slot members (suc (size_of index.valves)) index.seats now → listed ≡ index.refs ++ ref ∷ []
+    → ComesFirstOwned after index.ids index.numbers index.seats index.valves ref members feeders
+    → AreSeatedOwned ref.slot members (suc (size_of index.valves)) index.seats now → listed ≡ index.refs ++ ref ∷ []
     → StandsFor after new reports (record index { seats = now; refs = listed; members = noted; valves = valves; space = space })
 founded_by before after old new reports index delta stands are_after slots_after sound law valves space now listed noted ref members feeders fits meet idle (inl (made, (allowed, edits, kept))) come comes seated is =
     let sound_old = subst (λ (c : Checks). IsSound (watched_of after c)) kept sound in
@@ -179,7 +171,7 @@ founded_by before after old new reports index delta stands are_after slots_after
 pub founded_not_kept : (zones : List Zone) (are_zones : AreZones zones) (ids numbers : List ℕ) (seats : List Seat)
     (valves : Valves) (delta : Delta) (ref : SetRef) (members : List Slotted) (feeders : List ℕ)
     → KeepsValves zones ids numbers seats valves delta → HasCome delta ref
-    → ComesFirst zones ids numbers seats valves ref members feeders → ⊥
+    → ComesFirstOwned zones ids numbers seats valves ref members feeders → ⊥
 founded_not_kept zones are_zones ids numbers seats valves delta ref members feeders keeps come comes =
     let c = keeps.came 0 ref (at_first delta.added ref come.added) in
     let same = one_named zones ref c.set comes.set are_zones c.names comes.names in
@@ -191,7 +183,7 @@ founded_not_kept zones are_zones ids numbers seats valves delta ref members feed
 
 pub founded_not_beside : (zones : List Zone) (are_zones : AreZones zones) (ids numbers : List ℕ) (seats : List Seat)
     (valves : Valves) (delta : Delta) (ref : SetRef) (members : List Slotted) (feeders : List ℕ) → SparesValves zones seats delta
-    → HasCome delta ref → ComesFirst zones ids numbers seats valves ref members feeders → ⊥
+    → HasCome delta ref → ComesFirstOwned zones ids numbers seats valves ref members feeders → ⊥
 founded_not_beside zones are_zones ids numbers seats valves delta ref members feeders spares come comes =
     let c = spares.came 0 ref (at_first delta.added ref come.added) in
     let same = one_named zones ref c.set comes.set are_zones c.names comes.names in
@@ -204,7 +196,7 @@ some_same e = cc
 pub founded_not_led : (zones : List Zone) (are_zones : AreZones zones) (ids numbers : List ℕ) (seats : List Seat)
     (valves : Valves) (ref : SetRef) (members : List Slotted) (feeders others : List ℕ)
     → ComesToLead zones ids numbers seats valves ref others
-    → ComesFirst zones ids numbers seats valves ref members feeders → ⊥
+    → ComesFirstOwned zones ids numbers seats valves ref members feeders → ⊥
 founded_not_led zones are_zones ids numbers seats valves ref members feeders others leads comes =
     let same = one_named zones ref leads.set comes.set are_zones leads.names comes.names in
     let t = leads.its_target in
@@ -213,17 +205,77 @@ founded_not_led zones are_zones ids numbers seats valves ref members feeders oth
     let are = subst (λ (x : List (List ℕ) × RType). AreMembers zones ref.zone x.0 x.1 members) (sym both) comes.its_target.are in
     let f = first_here t.members t.seat.0 t.seat.1.0 in
     let m = member_there zones are_zones ref.zone t.name t.rtype t.members members f.0 t.are f.1 are in
-    let none = ap (group_seat seats) (sym f.2) ∙ (comes.its_target.bare f.0 m).1.1 in
+    let none = ap (group_seat seats) (sym f.2) ∙ (comes.its_target.own f.0 m).1.1 in
     let told = t.seat.1.1 in
     omega (arith, none, told)
 
 -- what an index has for such a command has one that is the same
 pub comes_first_by : (zones : List Zone) (ref : SetRef) (members : List Slotted) (feeders : List ℕ) {ids ids_now numbers numbers_now : List ℕ}
     {seats seats_now : List Seat} {valves valves_now : Valves} → ids ≡ ids_now → numbers ≡ numbers_now
-    → seats ≡ seats_now → valves ≡ valves_now → ComesFirst zones ids numbers seats valves ref members feeders
-    → ComesFirst zones ids_now numbers_now seats_now valves_now ref members feeders
+    → seats ≡ seats_now → valves ≡ valves_now → ComesFirstOwned zones ids numbers seats valves ref members feeders
+    → ComesFirstOwned zones ids_now numbers_now seats_now valves_now ref members feeders
 comes_first_by zones ref members feeders {ids} {ids_now} {numbers} {numbers_now} {seats} {seats_now} {valves} {valves_now} a b s v comes =
-    subst (λ (x : Valves). ComesFirst zones ids_now numbers_now seats_now x ref members feeders) v
-    (subst (λ (x : List Seat). ComesFirst zones ids_now numbers_now x valves ref members feeders) s
-    (subst (λ (x : List ℕ). ComesFirst zones ids_now x seats valves ref members feeders) b
-    (subst (λ (x : List ℕ). ComesFirst zones x numbers seats valves ref members feeders) a comes)))
+    subst (λ (x : Valves). ComesFirstOwned zones ids_now numbers_now seats_now x ref members feeders) v
+    (subst (λ (x : List Seat). ComesFirstOwned zones ids_now numbers_now x valves ref members feeders) s
+    (subst (λ (x : List ℕ). ComesFirstOwned zones ids_now x seats valves ref members feeders) b
+    (subst (λ (x : List ℕ). ComesFirstOwned zones x numbers seats valves ref members feeders) a comes)))
+
+-- ---- where nothing decides any set of the target group
+
+module _ (zones : List Zone) (are_zones : AreZones zones) (ids numbers : List ℕ) (seats : List Seat) (valves : Valves)
+    (ref : SetRef) (members : List Slotted) (feeders : List ℕ)
+    (comes : ComesFirst zones ids numbers seats valves ref members feeders) where
+  bare : (p : Slotted) → IsHere members p → set_seat seats p.slot ≡ 0
+  bare p m = (comes.its_target.bare p m).1.0
+
+  other : (p : Slotted) → IsHere members p → p.slot ≢ ref.slot
+  other p m e =
+      let same = one_named zones ref p.set comes.set are_zones
+      (subst (λ (n : ℕ). IsHere (placed_in zones ref.zone) (record { slot = n; set = p.set })) e (comes.its_target.are.here p m)) comes.names in
+      false≢true (sym (comes.its_target.bare p m).0 ∙ ap is_watched same ∙ watched_on comes.set comes.on)
+
+  -- they have no valves of their own, so that their seats tell none but these
+  pub plain_owned : ComesFirstOwned zones ids numbers seats valves ref members feeders
+  plain_owned = record {
+    set = comes.set;
+    names = comes.names;
+    on = comes.on;
+    bare = comes.bare;
+    none = comes.none;
+    alone = comes.alone;
+    its_check = comes.its_check;
+    its_target = record {
+      name = comes.its_target.name;
+      rtype = comes.its_target.rtype;
+      target = comes.its_target.target;
+      are = comes.its_target.are;
+      some = comes.its_target.some;
+      own = λ p m. (other p m, (bare p m ∙ sym (ap own_part (bare p m)), (comes.its_target.bare p m).1.1));
+    };
+    are = comes.are;
+    within = comes.within;
+    many = comes.many;
+  }
+
+  pub plain_valves : valves_of seats members ≡ []
+  plain_valves = none_own seats members bare
+
+  -- and nothing feeds the valve of the group
+  pub plain_founds : (before after : Index) → before.seats ≡ seats → FoundsOwned ref members feeders before after
+      → Founds ref members feeders before after
+  plain_founds before after same founds = record {
+    rest = founds.rest;
+    seated = record {
+      own = founds.seated.own;
+      check = founds.seated.check;
+      none = founds.seated.none;
+      set = λ p m apart. (founds.seated.sets p.slot apart).0 ∙ ap (λ (l : List Seat). set_seat l p.slot) same ∙ bare p m;
+      group = founds.seated.group;
+      others = λ s apart none. (founds.seated.sets s apart, founds.seated.others s apart none);
+    };
+    fed = λ net own fits.
+        subst (λ (l : List ℕ). ValvesStandFor (with_group l feeders net) (with_two_counts (length members) net.size own) after.valves)
+        (ap (λ (l : List Seat). valves_of l members) same ∙ plain_valves)
+        (subst (λ (n : ℕ). ValvesStandFor (with_group (valves_of before.seats members) feeders net) (with_two_counts n net.size own) after.valves)
+        (ap (λ (l : List Seat). plain_among l members) same ∙ all_plain seats members bare) (founds.fed net own fits));
+  }

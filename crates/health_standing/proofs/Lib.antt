@@ -3,6 +3,7 @@ pub mod Alone
 pub mod Bare
 pub mod Beside
 pub mod ByOne
+pub mod Counted
 pub mod FedAlike
 pub mod FoundCome
 pub mod Founded

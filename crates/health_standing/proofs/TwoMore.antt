@@ -3,7 +3,7 @@ use Rattle.std.proofs.Common.{◌≡◌, ◌≢◌, ◌<◌, ◌+◌, ◌++◌, 
 use Rattle.std.proofs.lemmas.Bool.{cases_eq, cases_lt, eq-eqb, le-ltb, lt-ltb, ne_eqb}
 use mathlib.Core.Path.{subst}
 use Rattle.health_standing.proofs.GroupLeft.{own_here, own_there}
-use Rattle.health_standing.specs.Founding.{HasRoomForTwo, counted_condition, with_two_counts, with_two_more}
+use Rattle.health_standing.specs.Founding.{HasRoomForTwo, group_condition, with_group, with_two_counts}
 use Rattle.health_valves.proofs.Needs.{ends_alike}
 use Rattle.health_valves.specs.Laying.{HasRoomFor, HasRoomForOne, links_of}
 use Rattle.health_valves.specs.Pass.{MeetAll}
@@ -26,24 +26,24 @@ module _ (its : Condition) (net : Net) where
 
 -- ---- two more
 
-module _ (feeders : List ℕ) (sets : ℕ) (net : Net) (own : ℕ → ℕ) where
+module _ (fed feeders : List ℕ) (sets : ℕ) (net : Net) (own : ℕ → ℕ) where
   abbrev two : Net
-  two = with_two_more feeders net
+  two = with_group fed feeders net
 
   abbrev counts : ℕ → ℕ
   counts = with_two_counts sets net.size own
 
   abbrev first : Net
-  first = with_one_more counted_condition net
+  first = with_one_more (group_condition fed) net
 
   abbrev last : Condition
   last = fed_condition (feeders ++ net.size ∷ [])
 
   pub there : (n : ℕ) → n < net.size → two.condition n ≡ net.condition n
-  there n within = more_there last first n (omega (arith, within)) ∙ more_there counted_condition net n within
+  there n within = more_there last first n (omega (arith, within)) ∙ more_there (group_condition fed) net n within
 
-  pub at_first : two.condition net.size ≡ counted_condition
-  at_first = more_there last first net.size (omega arith) ∙ more_here counted_condition net
+  pub at_first : two.condition net.size ≡ group_condition fed
+  at_first = more_there last first net.size (omega arith) ∙ more_here (group_condition fed) net
 
   pub at_last : two.condition (net.size + 1) ≡ fed_condition (feeders ++ net.size ∷ [])
   at_last = more_here last first
@@ -109,9 +109,9 @@ module _ (net now : Net) (own own_now : ℕ → ℕ) (size : now.size ≡ net.si
 
 -- ---- as they are pushed: one that nothing feeds, one behind it, and then what the first one needs and counts
 
-module _ (feeders : List ℕ) (sets : ℕ) (net : Net) (own : ℕ → ℕ) where
+module _ (fed feeders : List ℕ) (sets : ℕ) (net : Net) (own : ℕ → ℕ) where
   abbrev pub one : Net
-  one = with_one_more (fed_condition []) net
+  one = with_one_more (fed_condition fed) net
 
   abbrev pub both : Net
   both = with_one_more (fed_condition (feeders ++ net.size ∷ [])) one
@@ -125,27 +125,27 @@ module _ (feeders : List ℕ) (sets : ℕ) (net : Net) (own : ℕ → ℕ) where
   need_there : (n : ℕ) → n ≢ net.size → pushed.condition n ≡ both.condition n
   need_there n apart = rw (ne_eqb n net.size apart) refl
 
-  both_first : both.condition net.size ≡ fed_condition []
-  both_first = more_there (fed_condition (feeders ++ net.size ∷ [])) one net.size (omega arith) ∙ more_here (fed_condition []) net
+  both_first : both.condition net.size ≡ fed_condition fed
+  both_first = more_there (fed_condition (feeders ++ net.size ∷ [])) one net.size (omega arith) ∙ more_here (fed_condition fed) net
 
   need_here : pushed.condition net.size ≡ record { need = 1; inverted = false; feeders = (both.condition net.size).feeders }
   need_here = rw (eq-eqb net.size net.size refl) refl
 
-  pub conditions : (n : ℕ) → (with_two_more feeders net).condition n ≡ pushed.condition n
+  pub conditions : (n : ℕ) → (with_group fed feeders net).condition n ≡ pushed.condition n
   conditions n = elim (cases_eq n net.size) [
     | inl e ↦
-        ap (with_two_more feeders net).condition e ∙ at_first feeders sets net own
+        ap (with_group fed feeders net).condition e ∙ at_first fed feeders sets net own
         ∙ sym (ap pushed.condition e ∙ need_here ∙ ap (λ (c : Condition). record { need = 1; inverted = false; feeders = c.feeders }) both_first)
     | inr apart ↦ elim (cases_lt n net.size) [
       | inl low ↦
-          there feeders sets net own n low
-          ∙ sym (need_there n apart ∙ more_there (fed_condition (feeders ++ net.size ∷ [])) one n (omega (arith, low)) ∙ more_there (fed_condition []) net n low)
+          there fed feeders sets net own n low
+          ∙ sym (need_there n apart ∙ more_there (fed_condition (feeders ++ net.size ∷ [])) one n (omega (arith, low)) ∙ more_there (fed_condition fed) net n low)
       | inr past ↦ elim (cases_eq n (net.size + 1)) [
         | inl e ↦
-            ap (with_two_more feeders net).condition e ∙ at_last feeders sets net own
+            ap (with_group fed feeders net).condition e ∙ at_last fed feeders sets net own
             ∙ sym (need_there n apart ∙ ap both.condition e ∙ more_here (fed_condition (feeders ++ net.size ∷ [])) one)
         | inr far ↦
-            behind feeders sets net own n (omega (arith, apart, past, far))
+            behind fed feeders sets net own n (omega (arith, apart, past, far))
             ∙ sym (need_there n apart ∙ more_behind (fed_condition (feeders ++ net.size ∷ [])) one n (omega (arith, apart, past, far)))
       ]
     ]
@@ -153,12 +153,12 @@ module _ (feeders : List ℕ) (sets : ℕ) (net : Net) (own : ℕ → ℕ) where
 
   pub counts_alike : (n : ℕ) → with_two_counts sets net.size own n ≡ own_pushed n
   counts_alike n = elim (cases_eq n net.size) [
-    | inl e ↦ ap (with_two_counts sets net.size own) e ∙ count_first feeders sets net own ∙ sym (ap own_pushed e ∙ own_here net.size sets (with_own one.size 0 (with_own net.size 0 own)))
+    | inl e ↦ ap (with_two_counts sets net.size own) e ∙ count_first fed feeders sets net own ∙ sym (ap own_pushed e ∙ own_here net.size sets (with_own one.size 0 (with_own net.size 0 own)))
     | inr apart ↦ (
         let front = own_there net.size sets (with_own one.size 0 (with_own net.size 0 own)) n apart in
         elim (cases_eq n (net.size + 1)) [
           | inl e ↦
-              ap (with_two_counts sets net.size own) e ∙ count_last feeders sets net own
+              ap (with_two_counts sets net.size own) e ∙ count_last fed feeders sets net own
               ∙ sym (front ∙ ap (with_own one.size 0 (with_own net.size 0 own)) e ∙ own_here one.size 0 (with_own net.size 0 own))
           | inr far ↦
               own_there (net.size + 1) 0 (with_own net.size sets own) n far ∙ own_there net.size sets own n apart
@@ -167,24 +167,24 @@ module _ (feeders : List ℕ) (sets : ℕ) (net : Net) (own : ℕ → ℕ) where
         )
   ]
 
-  same_feeders : (n : ℕ) → (both.condition n).feeders ≡ ((with_two_more feeders net).condition n).feeders
+  same_feeders : (n : ℕ) → (both.condition n).feeders ≡ ((with_group fed feeders net).condition n).feeders
   same_feeders n = elim (cases_eq n net.size) [
-    | inl e ↦ ap (λ (c : Condition). c.feeders) (ap both.condition e ∙ both_first) ∙ sym (ap (λ (c : Condition). c.feeders) (ap (with_two_more feeders net).condition e ∙ at_first feeders sets net own))
+    | inl e ↦ ap (λ (c : Condition). c.feeders) (ap both.condition e ∙ both_first) ∙ sym (ap (λ (c : Condition). c.feeders) (ap (with_group fed feeders net).condition e ∙ at_first fed feeders sets net own))
     | inr apart ↦ ap (λ (c : Condition). c.feeders) (sym (need_there n apart) ∙ sym (conditions n))
   ]
 
   -- so paths end before what the first one needs is told, and behind it
-  pub ends_both : HasEnds (with_two_more feeders net) → HasEnds both
-  ends_both ends = ends_alike (with_two_more feeders net) both same_feeders ends
+  pub ends_both : HasEnds (with_group fed feeders net) → HasEnds both
+  ends_both ends = ends_alike (with_group fed feeders net) both same_feeders ends
 
-  pub ends_pushed : HasEnds (with_two_more feeders net) → HasEnds pushed
+  pub ends_pushed : HasEnds (with_group fed feeders net) → HasEnds pushed
   ends_pushed ends =
-      ends_alike (with_two_more feeders net) pushed (λ n. sym (ap (λ (c : Condition). c.feeders) (conditions n))) ends
+      ends_alike (with_group fed feeders net) pushed (λ n. sym (ap (λ (c : Condition). c.feeders) (conditions n))) ends
 
 -- ---- room
 
-pub room_first : (valves : Valves) → HasRoomForTwo valves → HasRoomForOne valves 0
-room_first valves room =
+pub room_first : (valves : Valves) (fed : ℕ) → HasRoomForTwo valves fed → HasRoomForOne valves fed
+room_first valves fed room =
     let rows = room.all.rows in
     let lists = room.all.lists in
     let values = room.all.values in
@@ -192,6 +192,7 @@ room_first valves room =
     let owns = room.all.owns in
     let cone = room.all.cone in
     let marks = room.all.marks in
+    let links = room.links in
     record {
       valve = record {
         rows = omega (arith, rows);
@@ -203,14 +204,14 @@ room_first valves room =
         cone = omega (arith, cone);
         marks = omega (arith, marks);
       };
-      links_room = omega arith;
+      links_room = omega (arith, links);
     }
 
-pub room_last : (before after : Valves) → HasRoomForTwo before → size_of after ≡ size_of before + 1
-    → links_of after ≡ links_of before + 0
+pub room_last : (before after : Valves) (fed : ℕ) → HasRoomForTwo before fed → size_of after ≡ size_of before + 1
+    → links_of after ≡ links_of before + fed
     → ((n m : ℕ) → HasRoomFor before n m → HasRoomFor after n m) → HasRoomForOne after 2
-room_last before after room size links kept =
-    let k = kept (size_of before + 2) 2 room.all in
+room_last before after fed room size links kept =
+    let k = kept (size_of before + 2) (fed + 2) room.all in
     let b = room.all in
     let all = kept (size_of before + 2) before.feeds.most (record {
       rows = b.rows;

@@ -45,7 +45,7 @@ pub record Space : Type 0 where
 -- The numbers of the checks, their valves, what the checkers of each endpoint saw, the children of calculated
 -- checks, what decides sets by their slots, the valves, and the room that there is. Listed in `refs` is each set
 -- with a valve of its own, and noted in `members` each of a group with a valve; beside these some that had one, or
--- whose groups had, and some twice.
+-- that went from such a group, and some twice.
 pub record Index : Type 0 where
   pub ids : List ℕ
   pub numbers : List ℕ

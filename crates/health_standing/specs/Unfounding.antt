@@ -1,6 +1,7 @@
 -- Commands by which the last evaluated alias goes that leads to a group, while its own group has no valve: nothing
 -- feeds its valve any more, nor that of the group where it led, and no seat tells either.
-use Rattle.std.specs.Prelude.{◌≡◌, ◌≢◌, ◌<◌, ℕ, suc, List}
+use Rattle.std.specs.Prelude.{◌≡◌, ◌≢◌, ◌<◌, ℕ, suc, List, nat_eq, not}
+use Rattle.std.specs.List.{filter}
 use Rattle.health_standing.specs.Index.{Index}
 use Rattle.health_planning.specs.Building.{TellsOn}
 use Rattle.health_planning.specs.Looking.{RefersTo}
@@ -42,11 +43,19 @@ pub record AreSeatedWithout (slot told : ℕ) (before after : List Seat) : Type 
   pub groups : (other : ℕ) → other ≢ slot → group_seat before other ≢ told
       → group_seat after other ≡ group_seat before other
 
+-- those of some sets whose seats tell a valve for their group
+abbrev pub told_among : List Seat → List SetRef → List SetRef
+told_among seats refs = filter (λ (ref : SetRef). not (nat_eq (group_seat seats ref.slot) 0)) refs
+
 -- Nothing feeds the valve of the alias then, and nothing that of the group; the seat of the alias tells nothing, and
--- those of the sets of the group no valve for it. Nothing else changes: sets of the group that have valves of their own
--- keep them, and those noted stay noted.
+-- those of the sets of the group no valve for it. Of the noted sets those stay noted whose seats tell a valve for their
+-- group still. Nothing else changes: sets of the group that have valves of their own keep them.
 pub record Unfounds (ref : SetRef) (valve group : ℕ) (before after : Index) : Type 0 where
-  pub rest : after ≡ record before { seats = after.seats; valves = after.valves }
+  pub rest : after ≡ record before {
+    seats = after.seats;
+    members = told_among after.seats before.members;
+    valves = after.valves;
+  }
   pub seated : AreSeatedWithout ref.slot (suc group) before.seats after.seats
   pub unfed : (net : Net) (own : ℕ → ℕ) → ValvesStandFor net own before.valves
       → ValvesStandFor (with_condition group unfed_condition (with_condition valve unfed_condition net))

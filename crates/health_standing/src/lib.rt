@@ -22,8 +22,8 @@ mod valve_leaving;
 
 pub use alias_coming::{AliasFeeders, alias_come, own_in, push_alias};
 pub use finding::{tells_of_check, valve_of};
-pub use founding::{FirstAlias, first_come, note_those, push_first, seat_first};
+pub use founding::{FirstAlias, first_come, note_those, own_valves_in, push_first, seat_first};
 pub use regrouping::{group_joined, group_left, one_come, one_gone, put_seat, seat_in};
-pub use unfounding::{LastAlias, last_left, seat_without};
+pub use unfounding::{LastAlias, last_left, note_told, seat_without};
 pub use unleading::valve_left;
 pub use valve_leaving::{gone_by, leaves_valves, spares_valves};

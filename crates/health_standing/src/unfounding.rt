@@ -2,7 +2,7 @@
 //! feeds its valve any more, nor that of the group, and seats tell neither.
 
 ghost use Rattle.std.specs.Prelude.{◌≡◌, ◌↔◌, ◌<◌, ℕ, IsTrue, Some, length, suc, vec_capacity};
-ghost use Rattle.health_standing.specs.Unfounding.{AreSeatedWithout, LeavesLast, TellWithout};
+ghost use Rattle.health_standing.specs.Unfounding.{AreSeatedWithout, LeavesLast, TellWithout, told_among};
 ghost use Rattle.health_standing.specs.declared.unfounding.LastAlias.{LastAlias};
 ghost use Rattle.health_planning.specs.Building.{TellSlot, TellsOn};
 ghost use Rattle.health_planning.specs.Wired.{group_seat};
@@ -104,4 +104,12 @@ pub fn seat_without(seats: &mut Vec<Seat>, noted: &[SetRef], slot: u32, group: u
 {
     clear_groups(seats, noted, group);
     put_seat(seats, slot, 0);
+}
+
+/// Those of some noted sets stay whose seats tell a valve for their group.
+pub fn note_told(noted: &mut Vec<SetRef>, seats: &[Seat])
+    ensures noted { noted.new.items ≡ told_among seats.now noted.old.items }
+    ensures room { vec_capacity noted.new ≡ vec_capacity noted.old }
+{
+    noted.retain(|set| find_seat(seats, set.slot).group != 0);
 }

@@ -9,7 +9,7 @@ use Rattle.health_planning.specs.Looking.{IsGroupNow, Watches}
 use Rattle.health_planning.specs.Telling.{evaluates, watch_of}
 use Rattle.health_planning.specs.Wired.{valve_with}
 use Rattle.health_planning.specs.GroupRecord.{Group}
-use Rattle.health_standing.specs.Founding.{ComesFirst, HasPlainTarget}
+use Rattle.health_standing.specs.Founding.{ComesFirstOwned, HasOwnTarget}
 use Rattle.health_standing.specs.Leading.{HasItsCheck}
 use Rattle.health_standing.specs.declared.founding.FirstAlias.{FirstAlias}
 use Rattle.health_valves.specs.Valves.{size_of}
@@ -32,9 +32,9 @@ returns-in_default-clause-all c members feeders comes = absurd (c.in_default.ens
   many = comes.many;
 }))
 
-pub returns-in_default-bare_target-clause-all : goal.returns-in_default-bare_target-clause-all
-returns-in_default-bare_target-clause-all c members feeders comes =
-    let e = c.in_default-bare_target.ensures.all comes.set members comes.names comes.its_target in
+pub returns-in_default-own_target-clause-all : goal.returns-in_default-own_target-clause-all
+returns-in_default-own_target-clause-all c members feeders comes =
+    let e = c.in_default-own_target.ensures.all comes.set members comes.names comes.its_target in
     absurd (none_some e.1.0)
 
 pub returns-in_default-first_from-clause-all : goal.returns-in_default-first_from-clause-all
@@ -61,11 +61,11 @@ returns-clause-found c its is =
     let zones = c.args.zones.now.zones in
     let t = c.in-Some.ensures.found c.in-Some.watch refl in
     let check : c.in-Some.watch.check ≡ t.0.set.check = ap (λ w. w.check) t.1 in
-    let target = c.in-Some-bare_target.ensures.found c.in-Some-bare_target.group t.0.set refl t.0.names in
+    let target = c.in-Some-own_target.ensures.found c.in-Some-own_target.group t.0.set refl t.0.names in
     let first = c.in-Some-first_from.first in
     let from = c.in-Some-first_from.ensures.found first refl in
     let group = c.in-Some-first_from.ensures.group first refl in
-    subst (λ (f : FirstAlias). ComesFirst zones c.args.ids.now c.args.numbers.now c.args.seats.now c.args.valves.now c.args.set
+    subst (λ (f : FirstAlias). ComesFirstOwned zones c.args.ids.now c.args.numbers.now c.args.seats.now c.args.valves.now c.args.set
     (members_of zones f.group) (option_to_list f.check)) (some_same is) (record {
       set = t.0.set;
       names = t.0.names;
@@ -74,7 +74,7 @@ returns-clause-found c its is =
       none = t.0.none;
       alone = t.0.alone;
       its_check = subst (HasItsCheck c.args.ids.now) check from.0;
-      its_target = subst (λ (g : Group). HasPlainTarget zones c.args.seats.now c.args.set.zone t.0.set (members_of zones g)) (sym group) target.1.1.1;
+      its_target = subst (λ (g : Group). HasOwnTarget zones c.args.seats.now c.args.set t.0.set (members_of zones g)) (sym group) target.1.1.1;
       are = from.1 ∙ ap (λ (o : Option ℕ). map (valve_with c.args.ids.now c.args.numbers.now) (option_to_list o)) check;
       within = c.is_there.ensures.0 c.if-not-is_there.false;
       many = t.0.many;
@@ -84,7 +84,7 @@ pub returns-clause-group : goal.returns-clause-group
 returns-clause-group c its is =
     let zones = c.args.zones.now.zones in
     let t = c.in-Some.ensures.found c.in-Some.watch refl in
-    let target = c.in-Some-bare_target.ensures.found c.in-Some-bare_target.group t.0.set refl t.0.names in
+    let target = c.in-Some-own_target.ensures.found c.in-Some-own_target.group t.0.set refl t.0.names in
     let group = c.in-Some-first_from.ensures.group c.in-Some-first_from.first refl in
     subst (λ (g : Group). IsGroupNow zones g × ((g.zone ≡ c.args.set.zone) × (g.length ≡ length (members_of zones g))))
     (sym group ∙ ap (λ (f : FirstAlias). f.group) (some_same is)) (target.0, (target.1.0, target.1.1.0))
@@ -98,6 +98,6 @@ returns-clause-all c members feeders comes =
     let first = c.in-Some-first_from.first in
     let its = (c.in-Some-first_from.ensures.found first refl).1
     ∙ ap (λ (o : Option ℕ). map (valve_with c.args.ids.now c.args.numbers.now) (option_to_list o)) check ∙ sym comes.are in
-    let e = c.in-Some-bare_target.ensures.all comes.set members comes.names comes.its_target in
+    let e = c.in-Some-own_target.ensures.all comes.set members comes.names comes.its_target in
     let one = ap (members_of zones) (c.in-Some-first_from.ensures.group first refl ∙ some_same e.1.0) ∙ e.1.1 in
     (first, (refl, (one, its)))

@@ -10,11 +10,11 @@ returns-clause-seated c =
       own = (let up = o.set in omega (arith, up));
       check = o.check;
       none = o.group;
-      set = λ p here apart. (o.others p.slot apart).0.0 ∙ s.set p here;
-      group = λ p here apart. (o.others p.slot apart).1 ∙ s.group p here;
-      others = λ other apart none.
+      sets = λ other apart.
           let t = o.others other apart in
-          let u = s.others other none in
+          let u = s.sets other in
           let v = g.all other in
-          ((t.0.0 ∙ (u.0.0 ∙ v.0.0), t.0.1 ∙ (u.0.1 ∙ v.0.1)), t.1 ∙ (u.1 ∙ v.1));
+          (t.0.0 ∙ (u.0 ∙ v.0.0), t.0.1 ∙ (u.1 ∙ v.0.1));
+      group = λ p here apart. (o.others p.slot apart).1 ∙ s.group p here;
+      others = λ other apart none. (o.others other apart).1 ∙ (s.others other none ∙ (g.all other).1);
     }

@@ -6,7 +6,7 @@ use Rattle.health_planning.proofs.Groups.{member_at}
 use Rattle.health_planning.proofs.ListedOnce.{slot_below}
 use Rattle.health_planning.proofs.Noted.{few_members}
 use Rattle.health_planning.specs.Groups.{members_of}
-use Rattle.health_planning.specs.Wired.{group_seat, set_seat}
+use Rattle.health_planning.specs.Wired.{group_seat}
 use Rattle.zone_model.proofs.Among.{among_at, place_of}
 use Rattle.zone_model.specs.Slotted.{Slotted}
 use Rattle.health_standing.proofs.founding.seat_those.Goals as goal
@@ -17,14 +17,14 @@ some_same e = cc
 pub loop-i-init : goal.loop-i-init
 loop-i-init c = record {
   size = refl;
-  set = λ k p early at. absurd (omega arith);
+  sets = λ slot. (refl, refl);
   group = λ k p early at. absurd (omega arith);
-  others = λ slot none. ((refl, refl), refl);
+  others = λ slot none. refl;
   room = refl;
 }
 
-pub put_seat-requires : goal.put_seat-requires
-put_seat-requires c =
+pub put_group-requires : goal.put_group-requires
+put_group-requires c =
     let m = member_at c.args.zones.now.zones c.args.group c.loop-i.i c.member.result c.loop-i-test.true c.member.ensures in
     let b = slot_below c.args.zones.now.zones c.args.zones.now.slots c.member.result m.p.set c.slots_within.ensures.within m.names in
     let slots = c.requires.slots in
@@ -34,7 +34,7 @@ put_seat-requires c =
 pub loop-i-preserved : goal.loop-i-preserved
 loop-i-preserved c =
     let i = c.loop-i.invariant in
-    let o = c.put_seat.ensures in
+    let o = c.put_group.ensures in
     let members = members_of c.args.zones.now.zones c.args.group in
     let m = member_at c.args.zones.now.zones c.args.group c.loop-i.i c.member.result c.loop-i-test.true c.member.ensures in
     let before : (k : ℕ) (p : Slotted) → k < c.loop-i.i + 1 → slice_get members k ≡ Some p → (p.slot ≡ c.member.result.slot → ⊥) → k < c.loop-i.i =
@@ -44,18 +44,13 @@ loop-i-preserved c =
     ] in
     record {
       size = o.size ∙ i.size;
-      set = λ k p early at. elim (cases_eq p.slot c.member.result.slot) [
-        | inl same ↦ ap (set_seat c.put_seat.new.seats.items) same ∙ o.seated.set
-        | inr apart ↦ (o.seated.others p.slot apart).0.0 ∙ i.set k p (before k p (omega (arith, early)) at apart) at
-      ];
+      sets = λ slot. ((o.sets slot).0 ∙ (i.sets slot).0, (o.sets slot).1 ∙ (i.sets slot).1);
       group = λ k p early at. elim (cases_eq p.slot c.member.result.slot) [
-        | inl same ↦ ap (group_seat c.put_seat.new.seats.items) same ∙ o.seated.group_is
-        | inr apart ↦ (o.seated.others p.slot apart).1 ∙ i.group k p (before k p (omega (arith, early)) at apart) at
+        | inl same ↦ ap (group_seat c.put_group.new.seats.items) same ∙ o.group
+        | inr apart ↦ o.others p.slot apart ∙ i.group k p (before k p (omega (arith, early)) at apart) at
       ];
       others = λ slot none.
-          let t = o.seated.others slot (λ e. none (m.p, among_at members c.loop-i.i m.p m.at, m.slot ∙ sym e)) in
-          let was = i.others slot none in
-          ((t.0.0 ∙ was.0.0, t.0.1 ∙ was.0.1), t.1 ∙ was.1);
+          o.others slot (λ e. none (m.p, among_at members c.loop-i.i m.p m.at, m.slot ∙ sym e)) ∙ i.others slot none;
       room = o.room ∙ i.room;
     }
 
@@ -66,10 +61,7 @@ returns-clause-seated c =
     let long = few_members c.args.zones.now.zones c.args.group in
     let end = c.loop-i-test.false in
     record {
-      set = λ p here.
-          let k = place_of members p here in
-          let b = slice_get_within members k.0 p k.1 in
-          i.set k.0 p (omega arith) k.1;
+      sets = i.sets;
       group = λ p here.
           let k = place_of members p here in
           let b = slice_get_within members k.0 p k.1 in

@@ -2,7 +2,7 @@ use Rattle.std.proofs.Common.{◌≡◌, ◌≤◌, ◌<◌, ℕ, suc, List, len
 use Rattle.std.proofs.lemmas.Bool.{false≢true}
 use mathlib.Core.Path.{subst}
 use Rattle.health_index.proofs.ByOne.{joined_not_beside, joined_not_kept, left_not_beside, left_not_kept}
-use Rattle.health_index.proofs.Founded.{founded_not_beside, founded_not_kept}
+use Rattle.health_index.proofs.Founded.{founded_not_beside, founded_not_kept, plain_founds, plain_owned, plain_valves}
 use Rattle.health_index.proofs.Led.{led_not_beside, led_not_kept}
 use Rattle.health_index.proofs.Moving.{all_moved, zones_stay}
 use Rattle.health_index.proofs.Unfounded.{unfounded_not_beside, unfounded_not_kept}
@@ -12,20 +12,22 @@ use Rattle.health_index.proofs.Staying.{leaves_follow, stands_with_valves}
 use Rattle.health_index.specs.Index.{Index, StandsFor}
 use Rattle.health_index.specs.Following.{AreSame, Follows, IsOpenTo, IsWay}
 use Rattle.health_index.specs.Kin.{kin_of}
-use Rattle.health_index.specs.Founding.{ComesFirst, Founds}
+use Rattle.health_index.specs.Founding.{ComesFirst, ComesFirstOwned, Founds, FoundsOwned}
 use Rattle.health_index.specs.Leading.{ComesToLead, GetsValve}
 use Rattle.health_index.specs.Regrouping.{Joins, JoinsGroup, Leaves, LeavesGroup, TellNoOther}
-use Rattle.health_index.specs.Room.{AddsFew, HasRoom, HasRoomForAlias, HasRoomForFirst}
+use Rattle.health_index.specs.Room.{AddsFew, HasRoom, HasRoomForAlias, HasRoomForFirst, HasRoomForGroup}
 use Rattle.health_index.specs.Unfounding.{LeavesLast, Unfounds}
 use Rattle.health_index.specs.Unleading.{LeavesValve, Unleads}
 use Rattle.health_planning.specs.DeltaRecord.{Delta}
-use Rattle.health_planning.specs.Wired.{set_seat}
-use Rattle.health_planning.specs.Zones.{Zone}
+use Rattle.health_planning.specs.SetRefRecord.{SetRef}
+use Rattle.zone_model.specs.Slotted.{Slotted}
+use Rattle.health_planning.specs.Wired.{set_seat, valves_of}
+use Rattle.health_planning.specs.Zones.{AreZones, Zone}
 use Rattle.health_index.specs.Leaving.{KeepsValves, Moves, SparesValves}
 use Rattle.health_index.proofs.Beside.{seats_same}
 use Rattle.health_valves.specs.Valves.{size_of}
 use Rattle.health_valves.specs.declared.valves.Valves.{Valves}
-use Rattle.health_index.proofs.Laid.{adds_none, adds_nothing, adds_seats}
+use Rattle.health_index.proofs.Laid.{adds_none, adds_nothing, adds_seats, adds_still, plain_room}
 use Rattle.health_index.proofs.index.HealthIndex.on_command.Goals as goal
 
 -- sets that keep the valves of an index keep those of one that is the same
@@ -266,9 +268,9 @@ returns-clause-led c ref feeders come comes room =
     (subst (λ (i : Index). ComesToLead zones i.ids i.numbers i.seats i.valves ref feeders) (sym same) comes)
     (subst (λ (i : Index). HasRoomForAlias i c.args.zones.now.slots) (sym same) room)).0)
 
--- where the first one came that leads to a group
-pub returns-then-leaves_valves-clause-founded : goal.returns-then-leaves_valves-clause-founded
-returns-then-leaves_valves-clause-founded c ref members feeders come comes room =
+-- where the first one came that leads to a group, of whose sets each has a valve of its own or nothing decides it
+pub returns-then-leaves_valves-clause-founded_owned : goal.returns-then-leaves_valves-clause-founded_owned
+returns-then-leaves_valves-clause-founded_owned c ref members feeders come comes room =
     let zones = c.args.zones.now.zones in
     absurd (founded_not_kept zones c.well_formed-2.ensures c.args.self.now.ids c.args.self.now.numbers c.args.self.now.seats c.args.self.now.valves c.args.delta.now ref members feeders
     (kept_by zones c.args.delta.now
@@ -277,32 +279,70 @@ returns-then-leaves_valves-clause-founded c ref members feeders come comes room 
     (c.deref-3.ensures.value ∙ ap (λ (i : Index). i.seats) c.self.view_is)
     (ap (λ (i : Index). i.valves) c.self.view_is) (c.if-leaves_valves.ensures.0 refl)) come comes)
 
-pub returns-then-reseat-clause-founded : goal.returns-then-reseat-clause-founded
-returns-then-reseat-clause-founded c ref members feeders come comes room =
+pub returns-then-reseat-clause-founded_owned : goal.returns-then-reseat-clause-founded_owned
+returns-then-reseat-clause-founded_owned c ref members feeders come comes room =
     let zones = c.args.zones.now.zones in
     let now = c.args.self.now in
     absurd (founded_not_beside zones c.well_formed-2.ensures now.ids now.numbers now.seats now.valves c.args.delta.now ref members feeders
     (subst (λ (i : Index). SparesValves zones i.seats c.args.delta.now) c.self.view_is (c.if-reseat.ensures.spares refl)) come comes)
 
-pub returns-then-regroup-clause-founded : goal.returns-then-regroup-clause-founded
-returns-then-regroup-clause-founded c ref members feeders come comes room =
+pub returns-then-regroup-clause-founded_owned : goal.returns-then-regroup-clause-founded_owned
+returns-then-regroup-clause-founded_owned c ref members feeders come comes room =
     let zones = c.args.zones.now.zones in
     let same = c.if-reseat.ensures.stays refl ∙ c.self.view_is in
-    subst (λ (i : Index). Founds ref members feeders i c.regroup.new.self) same
+    subst (λ (i : Index). FoundsOwned ref members feeders i c.regroup.new.self) same
     (c.if-regroup.ensures.founded ref members feeders come
-    (subst (λ (i : Index). ComesFirst zones i.ids i.numbers i.seats i.valves ref members feeders) (sym same) comes)
-    (subst (λ (i : Index). HasRoomForFirst i (length members) c.args.zones.now.slots) (sym same) room)).1
+    (subst (λ (i : Index). ComesFirstOwned zones i.ids i.numbers i.seats i.valves ref members feeders) (sym same) comes)
+    (subst (λ (i : Index). HasRoomForGroup i (length (valves_of i.seats members)) (length members) c.args.zones.now.slots) (sym same) room)).1
 
-pub returns-then-follow-clause-founded : goal.returns-then-follow-clause-founded
-returns-then-follow-clause-founded c ref members feeders come comes room = absurd (come.zone (c.if-follow.ensures.zone refl))
+pub returns-then-follow-clause-founded_owned : goal.returns-then-follow-clause-founded_owned
+returns-then-follow-clause-founded_owned c ref members feeders come comes room = absurd (come.zone (c.if-follow.ensures.zone refl))
 
-pub returns-clause-founded : goal.returns-clause-founded
-returns-clause-founded c ref members feeders come comes room =
+pub returns-clause-founded_owned : goal.returns-clause-founded_owned
+returns-clause-founded_owned c ref members feeders come comes room =
     let zones = c.args.zones.now.zones in
     let same = c.if-reseat.ensures.stays refl ∙ c.self.view_is in
     absurd (false≢true (c.if-regroup.ensures.founded ref members feeders come
-    (subst (λ (i : Index). ComesFirst zones i.ids i.numbers i.seats i.valves ref members feeders) (sym same) comes)
-    (subst (λ (i : Index). HasRoomForFirst i (length members) c.args.zones.now.slots) (sym same) room)).0)
+    (subst (λ (i : Index). ComesFirstOwned zones i.ids i.numbers i.seats i.valves ref members feeders) (sym same) comes)
+    (subst (λ (i : Index). HasRoomForGroup i (length (valves_of i.seats members)) (length members) c.args.zones.now.slots) (sym same) room)).0)
+
+-- and where nothing decides any
+plain_by : (zones : List Zone) → AreZones zones → (before after : Index) (slots : ℕ) (ref : SetRef) (members : List Slotted)
+    (feeders : List ℕ) → ComesFirst zones before.ids before.numbers before.seats before.valves ref members feeders
+    → HasRoomForFirst before (length members) slots
+    → (ComesFirstOwned zones before.ids before.numbers before.seats before.valves ref members feeders
+    → HasRoomForGroup before (length (valves_of before.seats members)) (length members) slots
+    → FoundsOwned ref members feeders before after) → Founds ref members feeders before after
+plain_by zones are_zones before after slots ref members feeders comes room owned =
+    let none = plain_valves zones are_zones before.ids before.numbers before.seats before.valves ref members feeders comes in
+    plain_founds zones are_zones before.ids before.numbers before.seats before.valves ref members feeders comes before after refl
+    (owned (plain_owned zones are_zones before.ids before.numbers before.seats before.valves ref members feeders comes)
+    (plain_room before (length members) slots (length (valves_of before.seats members)) (ap (λ (l : List ℕ). length l) none) room))
+
+pub returns-then-leaves_valves-clause-founded : goal.returns-then-leaves_valves-clause-founded
+returns-then-leaves_valves-clause-founded c ref members feeders come comes room =
+    plain_by c.args.zones.now.zones c.well_formed-2.ensures c.args.self.now _ c.args.zones.now.slots ref members feeders comes room
+    (returns-then-leaves_valves-clause-founded_owned c ref members feeders come)
+
+pub returns-then-reseat-clause-founded : goal.returns-then-reseat-clause-founded
+returns-then-reseat-clause-founded c ref members feeders come comes room =
+    plain_by c.args.zones.now.zones c.well_formed-2.ensures c.args.self.now _ c.args.zones.now.slots ref members feeders comes room
+    (returns-then-reseat-clause-founded_owned c ref members feeders come)
+
+pub returns-then-regroup-clause-founded : goal.returns-then-regroup-clause-founded
+returns-then-regroup-clause-founded c ref members feeders come comes room =
+    plain_by c.args.zones.now.zones c.well_formed-2.ensures c.args.self.now _ c.args.zones.now.slots ref members feeders comes room
+    (returns-then-regroup-clause-founded_owned c ref members feeders come)
+
+pub returns-then-follow-clause-founded : goal.returns-then-follow-clause-founded
+returns-then-follow-clause-founded c ref members feeders come comes room =
+    plain_by c.args.zones.now.zones c.well_formed-2.ensures c.args.self.now _ c.args.zones.now.slots ref members feeders comes room
+    (returns-then-follow-clause-founded_owned c ref members feeders come)
+
+pub returns-clause-founded : goal.returns-clause-founded
+returns-clause-founded c ref members feeders come comes room =
+    plain_by c.args.zones.now.zones c.well_formed-2.ensures c.args.self.now _ c.args.zones.now.slots ref members feeders comes room
+    (returns-clause-founded_owned c ref members feeders come)
 
 pub returns-then-follow-clause-left : goal.returns-then-follow-clause-left
 returns-then-follow-clause-left c ref valve gone leaves = absurd (gone.zone (c.if-follow.ensures.zone refl))
@@ -387,22 +427,22 @@ leaves_valves-requires-clause-seated c slot valve at =
 
 -- how much more there is
 pub returns-then-leaves_valves-clause-grows : goal.returns-then-leaves_valves-clause-grows
-returns-then-leaves_valves-clause-grows c = inr (adds_nothing _ _ _ c.self.view_is)
+returns-then-leaves_valves-clause-grows c = inr (inl (adds_nothing _ _ _ c.self.view_is))
 
 pub returns-then-reseat-clause-grows : goal.returns-then-reseat-clause-grows
 returns-then-reseat-clause-grows c =
-    inr (adds_seats _ _ _ c.reseat.new.self.seats
-    (c.if-reseat.ensures.rest ∙ ap (λ (i : Index). record i { seats = c.reseat.new.self.seats }) c.self.view_is))
+    inr (inl (adds_seats _ _ _ c.reseat.new.self.seats
+    (c.if-reseat.ensures.rest ∙ ap (λ (i : Index). record i { seats = c.reseat.new.self.seats }) c.self.view_is)))
 
 pub returns-then-regroup-clause-grows : goal.returns-then-regroup-clause-grows
 returns-then-regroup-clause-grows c =
     let same = c.if-reseat.ensures.stays refl ∙ c.self.view_is in
-    inr (subst (λ (i : Index). AddsFew c.args.zones.now.slots i c.regroup.new.self) same c.if-regroup.ensures.adds)
+    inr (adds_still c.args.zones.now.zones c.args.zones.now.slots c.args.delta.now _ _ _ same c.if-regroup.ensures.adds)
 
 pub returns-then-follow-clause-grows : goal.returns-then-follow-clause-grows
 returns-then-follow-clause-grows c =
     let same = c.if-regroup.ensures.stays refl ∙ c.if-reseat.ensures.stays refl ∙ c.self.view_is in
-    inr (subst (λ (i : Index). AddsFew c.args.zones.now.slots i c.follow.new.self) same (adds_none _ _ _ c.if-follow.ensures.as_much))
+    inr (inl (subst (λ (i : Index). AddsFew c.args.zones.now.slots i c.follow.new.self) same (adds_none _ _ _ c.if-follow.ensures.as_much)))
 
 pub returns-clause-grows : goal.returns-clause-grows
 returns-clause-grows c = inl c.lay.ensures.laid

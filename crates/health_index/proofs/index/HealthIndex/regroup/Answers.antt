@@ -1,19 +1,19 @@
-use Rattle.std.proofs.Common.{◌≡◌, ◌∷◌, [], Option, length, ap, refl, sym, ◌∙◌}
+use Rattle.std.proofs.Common.{◌≡◌, ◌∷◌, [], Option, length, ap, refl, sym, ◌∙◌, inl}
 use Rattle.std.proofs.lemmas.Bool.{false≢true}
 use mathlib.Core.Path.{subst}
 use Rattle.health_index.proofs.Regrouped.{watched_on}
 use Rattle.health_index.proofs.Founded.{founded_not_led}
-use Rattle.health_index.specs.Founding.{ComesFirst, Founds}
+use Rattle.health_index.specs.Founding.{ComesFirstOwned, FoundsOwned}
 use Rattle.health_index.specs.Leading.{ComesToLead, GetsValve}
-use Rattle.health_index.specs.Room.{HasRoom, HasRoomForAlias, HasRoomForFirst}
+use Rattle.health_index.specs.Room.{HasRoom, HasRoomForAlias, HasRoomForGroup}
 use Rattle.health_index.specs.Regrouping.{IsCome, IsGone, Joins, JoinsGroup, Leaves, LeavesGroup, TellNoOther}
 use Rattle.health_index.specs.Index.{Index, StandsFor}
 use Rattle.health_index.specs.Unfounding.{LeavesLast, Unfounds}
 use Rattle.health_index.specs.Unleading.{LeavesValve, Unleads}
 use Rattle.health_planning.specs.Looking.{RefersTo}
 use Rattle.health_planning.specs.SetRefRecord.{SetRef}
-use Rattle.health_planning.specs.Wired.{group_seat}
-use Rattle.health_index.proofs.Laid.{adds_nothing}
+use Rattle.health_planning.specs.Wired.{group_seat, valves_of}
+use Rattle.health_index.proofs.Laid.{adds_nothing, adds_still}
 use Rattle.health_index.specs.Room.{AddsFew}
 use Rattle.health_index.proofs.index.HealthIndex.regroup.Goals as goal
 
@@ -223,31 +223,37 @@ returns-in-Some-one_come-clause-founded c ref members feeders come comes room =
     let zones = c.args.zones.now.zones in
     let same = c.if-lead_in.ensures.stays refl ∙ c.if-join.ensures.stays refl in
     let l = c.found_in.ensures.founded members feeders
-    (subst (λ (i : Index). ComesFirst zones i.ids i.numbers i.seats i.valves c.in-Some-one_come.set members feeders) (sym same)
-    (subst (λ (r : SetRef). ComesFirst zones c.args.self.now.ids c.args.self.now.numbers c.args.self.now.seats c.args.self.now.valves r members feeders) (sym one) comes))
-    (subst (λ (i : Index). HasRoomForFirst i (length members) c.args.zones.now.slots) (sym same) room) in (
+    (subst (λ (i : Index). ComesFirstOwned zones i.ids i.numbers i.seats i.valves c.in-Some-one_come.set members feeders) (sym same)
+    (subst (λ (r : SetRef). ComesFirstOwned zones c.args.self.now.ids c.args.self.now.numbers c.args.self.now.seats c.args.self.now.valves r members feeders) (sym one) comes))
+    (subst (λ (i : Index). HasRoomForGroup i (length (valves_of i.seats members)) (length members) c.args.zones.now.slots) (sym same) room) in (
       l.0,
-      subst (λ (i : Index). Founds ref members feeders i c.found_in.new.self) same
-          (subst (λ (r : SetRef). Founds r members feeders c.lead_in.new.self c.found_in.new.self) one l.1),
+      subst (λ (i : Index). FoundsOwned ref members feeders i c.found_in.new.self) same
+          (subst (λ (r : SetRef). FoundsOwned r members feeders c.lead_in.new.self c.found_in.new.self) one l.1),
     )
+
+pub returns-then-leave-clause-adds : goal.returns-then-leave-clause-adds
+returns-then-leave-clause-adds c = inl c.if-leave.ensures.adds
 
 pub returns-then-unlead-clause-adds : goal.returns-then-unlead-clause-adds
 returns-then-unlead-clause-adds c =
-    subst (λ (i : Index). AddsFew c.args.zones.now.slots i c.unlead.new.self) (c.if-leave.ensures.stays refl) c.if-unlead.ensures.adds
+    inl (subst (λ (i : Index). AddsFew c.args.zones.now.slots i c.unlead.new.self) (c.if-leave.ensures.stays refl) c.if-unlead.ensures.adds)
 
 pub returns-in-Some-clause-adds : goal.returns-in-Some-clause-adds
 returns-in-Some-clause-adds c =
-    subst (λ (i : Index). AddsFew c.args.zones.now.slots i c.unfound.new.self)
-    (c.if-unlead.ensures.stays refl ∙ c.if-leave.ensures.stays refl) c.unfound.ensures.adds
+    inl (subst (λ (i : Index). AddsFew c.args.zones.now.slots i c.unfound.new.self)
+    (c.if-unlead.ensures.stays refl ∙ c.if-leave.ensures.stays refl) c.unfound.ensures.adds)
+
+pub returns-then-join-clause-adds : goal.returns-then-join-clause-adds
+returns-then-join-clause-adds c = inl c.if-join.ensures.adds
 
 pub returns-then-lead_in-clause-adds : goal.returns-then-lead_in-clause-adds
 returns-then-lead_in-clause-adds c =
-    subst (λ (i : Index). AddsFew c.args.zones.now.slots i c.lead_in.new.self) (c.if-join.ensures.stays refl) c.if-lead_in.ensures.adds
+    inl (subst (λ (i : Index). AddsFew c.args.zones.now.slots i c.lead_in.new.self) (c.if-join.ensures.stays refl) c.if-lead_in.ensures.adds)
 
 pub returns-in-Some-one_come-clause-adds : goal.returns-in-Some-one_come-clause-adds
 returns-in-Some-one_come-clause-adds c =
-    subst (λ (i : Index). AddsFew c.args.zones.now.slots i c.found_in.new.self)
+    adds_still c.args.zones.now.zones c.args.zones.now.slots c.args.delta.now _ _ _
     (c.if-lead_in.ensures.stays refl ∙ c.if-join.ensures.stays refl) c.found_in.ensures.adds
 
 pub returns-clause-adds : goal.returns-clause-adds
-returns-clause-adds c = adds_nothing _ _ _ refl
+returns-clause-adds c = inl (adds_nothing _ _ _ refl)

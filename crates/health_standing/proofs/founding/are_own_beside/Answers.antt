@@ -6,22 +6,22 @@ use mathlib.Core.Path.{subst}
 use Rattle.health_planning.proofs.Groups.{member_at}
 use Rattle.health_planning.proofs.Noted.{few_members}
 use Rattle.health_planning.specs.Groups.{members_of}
-use Rattle.health_standing.specs.Founding.{IsPlainSet}
+use Rattle.health_standing.specs.Founding.{IsOwnBeside}
 use Rattle.zone_model.proofs.Among.{among_at, place_of}
 use Rattle.zone_model.specs.Slotted.{Slotted}
-use Rattle.health_standing.proofs.founding.are_bare.Goals as goal
+use Rattle.health_standing.proofs.founding.are_own_beside.Goals as goal
 
 some_same : {X : Type 0} {x y : X} → Some x ≡ Some y → x ≡ y
 some_same e = cc
 
-pub returns-then-not-is_bare : goal.returns-then-not-is_bare
-returns-then-not-is_bare c =
+pub returns-then-not-is_own_beside : goal.returns-then-not-is_own_beside
+returns-then-not-is_own_beside c =
     let members = members_of c.args.zones.now.zones c.args.group in
     let m = member_at c.args.zones.now.zones c.args.group c.loop-i.i c.member.result c.loop-i-test.true c.member.ensures in (
       λ none. absurd (false≢true none),
-      λ all. absurd (false≢true (sym c.if-not-is_bare.true
-          ∙ (c.is_bare.ensures m.p.set m.names).1
-          (subst (λ (n : ℕ). IsPlainSet c.args.seats.now n m.p.set) m.slot (all m.p (among_at members c.loop-i.i m.p m.at))))),
+      λ all. absurd (false≢true (sym c.if-not-is_own_beside.true
+          ∙ c.is_own_beside.ensures.1
+          (subst (IsOwnBeside c.args.seats.now c.args.slot) m.slot (all m.p (among_at members c.loop-i.i m.p m.at))))),
     )
 
 pub loop-i-preserved : goal.loop-i-preserved
@@ -31,9 +31,9 @@ loop-i-preserved c k p early at =
     elim (cases_eq k c.loop-i.i) [
       | inl last ↦
           let same = some_same (sym m.at ∙ ap (slice_get members) (sym last) ∙ at) in
-          subst (λ (q : Slotted). IsPlainSet c.args.seats.now q.slot q.set) same
-          (subst (λ (n : ℕ). IsPlainSet c.args.seats.now n m.p.set) (sym m.slot)
-          ((c.is_bare.ensures m.p.set m.names).0 c.if-not-is_bare.false))
+          subst (λ (q : Slotted). IsOwnBeside c.args.seats.now c.args.slot q.slot) same
+          (subst (IsOwnBeside c.args.seats.now c.args.slot) (sym m.slot)
+          (c.is_own_beside.ensures.0 c.if-not-is_own_beside.false))
       | inr other ↦ c.loop-i.invariant k p (omega arith) at
     ]
 
