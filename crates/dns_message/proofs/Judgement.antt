@@ -1,14 +1,12 @@
 -- A packet has one judgement.
-use Rattle.std.proofs.Common.{◌≡◌, ℕ, List, [], ◌∷◌, inl, inr, refl, sym, ap, ◌∙◌, subst, Bool, drop, ◌+◌}
+use Rattle.std.proofs.Common.{◌≡◌, ℕ, List, [], ◌∷◌, inl, inr, refl, sym, ap, ◌∙◌, subst, drop, ◌+◌}
 use Rattle.std.specs.Prelude.{Option, None, Some, Ok, Err, Result, ⊤}
-use Rattle.std.proofs.lemmas.Option.{none-some}
 use Rattle.dns_name.specs.Laws.{OneNameAtTheFront}
-use Rattle.ecs_option.specs.Grammar.{Reads}
 use Rattle.ecs_option.specs.Laws.{OneReading}
 use Rattle.ecs_option.specs.declared.subnet.ClientSubnet.{ClientSubnet}
 use Rattle.ecs_option.specs.declared.subnet.Malformed.{Malformed}
-use Rattle.dns_message.specs.Edns.{IsEdns, TellsEdns, TellsSubnet, first_body, opts_of, dnssec_ok_of}
-use Rattle.dns_message.specs.Judge.{HasQuery, HoldsOf, IsAnsweredBy, IsFirst, Judges, NoneHolds, Point, points, query_of}
+use Rattle.dns_message.specs.Edns.{TellsEdns, TellsSubnet, first_body, opts_of}
+use Rattle.dns_message.specs.Judge.{HasQuery, IsAnsweredBy, IsFirst, Judges, NoneHolds, Point, points, query_of}
 use Rattle.dns_message.specs.Judge.Point.{Unheard, Kind, Counts, Question, Additionals, Version, Subnet}
 use Rattle.dns_message.specs.Laws.{OneSplit}
 use Rattle.dns_message.specs.Records.{AnyRecord, BeginsWithRecords, Split, SplitsAs}

@@ -1,29 +1,28 @@
 -- What a packet is judged as, from what its parts were found to be.
-use Rattle.std.proofs.Common.{◌≡◌, ◌≢◌, ℕ, ◌+◌, ◌<◌, ◌≤◌, ◌/◌, ◌%◌, ◌==◌, List, [], ◌∷◌, length, drop, get_or, ap, ◌∙◌, sym, refl, subst, arith, inl, inr}
+use Rattle.std.proofs.Common.{◌≡◌, ◌≢◌, ℕ, ◌+◌, ◌<◌, ◌≤◌, ◌/◌, ◌%◌, ◌==◌, List, [], ◌∷◌, length, drop, get_or, ap, ◌∙◌, sym, refl, subst, arith, inl, inr, take}
 use Rattle.std.specs.Prelude.{Option, None, Some, Ok, Err, ⊤}
 use Rattle.std.proofs.lemmas.Option.{none-some}
 use Rattle.ecs_option.specs.Grammar.{Point as ecs, Reads}
 use Rattle.ecs_option.specs.declared.subnet.ClientSubnet.{ClientSubnet}
 use Rattle.ecs_option.specs.declared.subnet.Malformed.{Malformed}
-use Rattle.dns_message.specs.Edns.{AreProperOpts, HasMalformedSubnet, HasNewVersion, IsMalformedOpt, TellsEdns, TellsSubnet, first_body, opts_of}
+use Rattle.octets.specs.Numbers.{number_at}
+use Rattle.std.specs.Prelude.{◌-◌}
+use Rattle.dns_message.specs.Edns.{AreOptions, AreProperOpts, EdnsOption, HasMalformedSubnet, HasNewVersion, IsMalformedOpt, IsProperOpt, TellsEdns, TellsSubnet, first_body, opts_of}
 use Rattle.dns_message.specs.Header.{arcount_of, HasQueryCounts, id_of, opcode_of, rd_of}
 use Rattle.dns_message.specs.Judge.{HasQuery, HoldsOf, IsAnsweredBy, IsFirst, Judges, NoneHolds, Point, points, query_of}
 use Rattle.dns_message.specs.Judge.Point.{Unheard, Kind, Counts, Question, Additionals, Version, Subnet}
 use Rattle.dns_message.specs.Question.{Asks}
-use Rattle.dns_message.specs.Records.{AnyRecord, BeginsWithRecords, Split, SplitsAs}
+use Rattle.dns_message.specs.Records.{AnyRecord, BeginsWithRecords, Split, SplitsAs, record_of}
 use Rattle.dns_message.specs.Verdict.{read_as}
-use Rattle.dns_message.specs.Walk.{HasRecords, HasSubnet, IsOptOf, WalksTo, edns_of, told_of}
+use Rattle.dns_message.specs.Walk.{HasRecords, HasSubnet, IsOptOf, Opt, SubnetRead, SubnetRead as subnet, WalksTo, WalksWith, edns_of, opt_with, told_of}
 use Rattle.dns_message.specs.Whole.{GivesWhole, HasEdns, IsSubnetOrNone, IsWhole, subnet_of}
-use Rattle.dns_message.specs.declared.options.SubnetRead.{SubnetRead}
-use Rattle.dns_message.specs.declared.options.SubnetRead.TheVariants as subnet
 use Rattle.dns_message.specs.declared.query.Edns.{Edns}
 use Rattle.dns_message.specs.declared.query.Query.{Query}
 use Rattle.dns_message.specs.declared.query.QueryRead.TheVariants as read
 use Rattle.dns_message.specs.declared.verdict.Verdict.{Verdict}
 use Rattle.dns_message.specs.declared.verdict.Verdict.TheVariants as verdict
-use Rattle.dns_message.specs.declared.records.Opt.{Opt}
-use Rattle.dns_message.specs.declared.records.Walked.{Walked}
-use Rattle.dns_message.specs.declared.records.Walked.TheVariants as walked
+use Rattle.dns_message.specs.declared.walked.Walked.{Walked}
+use Rattle.dns_message.specs.declared.walked.Walked.TheVariants as walked
 use Rattle.dns_message.proofs.OptionLists.{one_list}
 use Rattle.dns_message.proofs.Question.{fits, padded_question}
 use Rattle.dns_message.proofs.Walking.{one_list_of_records}
@@ -43,14 +42,14 @@ or_empty (Some body) = body
 
 is_malformed : SubnetRead → Type 0
 is_malformed subnet.Absent = ⊥
-is_malformed subnet.Malformed = ⊤
+is_malformed subnet.Faulty = ⊤
 is_malformed (subnet.Told told) = ⊥
 
-absent_sound : subnet.Malformed ≢ subnet.Absent
+absent_sound : subnet.Faulty ≢ subnet.Absent
 unfolding is_malformed
 absent_sound e = subst is_malformed e tt
 
-told_sound : (told : ClientSubnet) → subnet.Malformed ≢ subnet.Told told
+told_sound : (told : ClientSubnet) → subnet.Faulty ≢ subnet.Told told
 unfolding is_malformed
 told_sound told e = subst is_malformed e tt
 
@@ -215,12 +214,12 @@ module _ (r : AnyRecord) (opt : Opt) (is : IsOptOf r opt) where
   no_newer h new = let v : 0 < opt.ttl / 65536 % 256 = subst (λ t. 0 < t / 65536 % 256) (sym is.ttl) new in omega (arith, v, h)
 
   malformed_first : (first : Option (List ℕ)) (told : SubnetRead) → first_body 8 is.options ≡ first
-      → told ≡ subnet.Malformed → HasSubnet first told → IsMalformedOpt r
+      → told ≡ subnet.Faulty → HasSubnet first told → IsMalformedOpt r
   malformed_first None subnet.Absent e t h = absurd (absent_sound (sym t))
-  malformed_first None subnet.Malformed e t h = absurd h
+  malformed_first None subnet.Faulty e t h = absurd h
   malformed_first None (subnet.Told told) e t h = absurd h
   malformed_first (Some body) subnet.Absent e t h = absurd h
-  malformed_first (Some body) subnet.Malformed e t h = record {
+  malformed_first (Some body) subnet.Faulty e t h = record {
     options = is.options;
     filled = is.filled;
     body = body;
@@ -230,18 +229,18 @@ module _ (r : AnyRecord) (opt : Opt) (is : IsOptOf r opt) where
   }
   malformed_first (Some body) (subnet.Told told) e t h = absurd (told_sound told (sym t))
 
-  pub malformed : opt.subnet ≡ subnet.Malformed → HasMalformedSubnet (r ∷ [])
+  pub malformed : opt.subnet ≡ subnet.Faulty → HasMalformedSubnet (r ∷ [])
   malformed e = malformed_first (first_body 8 is.options) opt.subnet refl e is.subnet
 
   sound_first : (first : Option (List ℕ)) (told : SubnetRead) (body : List ℕ) (fault : Malformed)
-      → first ≡ Some body → told ≢ subnet.Malformed → HasSubnet first told → Reads body (Err fault) → ⊥
+      → first ≡ Some body → told ≢ subnet.Faulty → HasSubnet first told → Reads body (Err fault) → ⊥
   sound_first None told body fault e ne h bad = none-some body e
   sound_first (Some other) subnet.Absent body fault e ne h bad = h
-  sound_first (Some other) subnet.Malformed body fault e ne h bad = ne refl
+  sound_first (Some other) subnet.Faulty body fault e ne h bad = ne refl
   sound_first (Some other) (subnet.Told told) body fault e ne h bad =
       never_both body told fault (subst (λ b. Reads b (Ok told)) (ap or_empty e) h.0) bad
 
-  pub sound : opt.subnet ≢ subnet.Malformed → HasMalformedSubnet (r ∷ []) → ⊥
+  pub sound : opt.subnet ≢ subnet.Faulty → HasMalformedSubnet (r ∷ []) → ⊥
   sound ne bad =
       let same : bad.options ≡ is.options = one_list r.rdata bad.options is.options bad.filled is.filled in
       sound_first (first_body 8 is.options) opt.subnet bad.body bad.fault
@@ -250,10 +249,10 @@ module _ (r : AnyRecord) (opt : Opt) (is : IsOptOf r opt) where
   tells_first : (first : Option (List ℕ)) (told : SubnetRead) → HasSubnet first told
       → TellsSubnet first (told_of told)
   tells_first None subnet.Absent h = refl
-  tells_first None subnet.Malformed h = absurd h
+  tells_first None subnet.Faulty h = absurd h
   tells_first None (subnet.Told told) h = absurd h
   tells_first (Some body) subnet.Absent h = absurd h
-  tells_first (Some body) subnet.Malformed h = h
+  tells_first (Some body) subnet.Faulty h = h
   tells_first (Some body) (subnet.Told told) h = h.0
 
   pub tells : TellsEdns (r ∷ []) (Some (edns_of opt))
@@ -268,7 +267,7 @@ module _ (r : AnyRecord) (opt : Opt) (is : IsOptOf r opt) where
   whole_first : (first : Option (List ℕ)) (told : SubnetRead) → HasSubnet first told
       → IsSubnetOrNone (told_of told)
   whole_first first subnet.Absent h = tt
-  whole_first first subnet.Malformed h = tt
+  whole_first first subnet.Faulty h = tt
   whole_first None (subnet.Told told) h = absurd h
   whole_first (Some body) (subnet.Told told) h = h.1
 
@@ -277,18 +276,49 @@ module _ (r : AnyRecord) (opt : Opt) (is : IsOptOf r opt) where
 
 -- ---- the answers
 
-pub with_edns : (packet : List ℕ) (labels : List (List ℕ)) (n : ℕ) (edns other : Edns) (query : Query)
-    → query ≡ query_of packet labels n None → edns ≡ other
-    → record query { edns = Some edns } ≡ query_of packet labels n (Some other)
+pub with_edns : (packet : List ℕ) (labels : List (List ℕ)) (n : ℕ) (edns : Option Edns) (other : Edns) (query : Query)
+    → query ≡ query_of packet labels n None → edns ≡ Some other
+    → record query { edns = edns } ≡ query_of packet labels n (Some other)
 with_edns packet labels n edns other query e same =
-    ap (λ (q : Query). record q { edns = Some edns }) e
-    ∙ ap (λ t. query_of packet labels n (Some t)) same
+    ap (λ (q : Query). record q { edns = edns }) e ∙ ap (λ t. query_of packet labels n t) same
 
 pub walks_behind : (packet records : List ℕ) (n count : ℕ) (found : Walked)
     → records ≡ drop (12 + n) packet → count ≡ arcount_of packet → WalksTo records count found
     → WalksTo (drop (12 + n) packet) (arcount_of packet) found
 walks_behind packet records n count found e k w =
     subst (λ m. WalksTo (drop (12 + n) packet) m found) k (subst (λ l. WalksTo l count found) e w)
+
+-- what the OPT record of one octet's owner has, whose data are these options
+pub opt_is : (octets rdata : List ℕ) (size : ℕ) (options : List EdnsOption) (told : SubnetRead)
+    → take 1 octets ≡ 0 ∷ [] → size ≡ number_at octets 9 → rdata ≡ take (11 + size - 11) (drop 11 octets)
+    → AreOptions rdata options → HasSubnet (first_body 8 options) told
+    → IsOptOf (record_of octets 1) (opt_with octets told)
+opt_is octets rdata size options told root sized is are tells = record {
+  owner = root;
+  class = refl;
+  ttl = refl;
+  options = options;
+  filled =
+      subst (λ l. AreOptions l options)
+      (is ∙ ap (λ n. take n (drop 11 octets)) (omega (arith, sized))) are;
+  subnet = tells;
+}
+
+-- the record that was found, where what it has was read
+pub walks_with : (octets : List ℕ) (count at : ℕ) (opt : Opt) → WalksTo octets count (walked.At at)
+    → IsOptOf (record_of (drop at octets) 1) opt → WalksWith octets count opt
+walks_with octets count at opt w is =
+    (w.0, w.1, (w.2.0, w.2.1, subst (λ r. IsOptOf r opt) (sym w.2.2.is) is))
+
+-- data that aren't options
+pub walks_to_none : (octets : List ℕ) (count at : ℕ) → WalksTo octets count (walked.At at)
+    → ((options : List EdnsOption) → AreOptions (record_of (drop at octets) 1).rdata options → ⊥)
+    → WalksTo octets count walked.Broken
+walks_to_none octets count at w none records has proper =
+    let same : records ≡ w.0 =
+    one_list_of_records octets records w.0 (has.count_is ∙ sym w.1.count_is) has.there w.1.there in
+    let one : IsProperOpt w.2.0 = subst AreProperOpts (ap opts_of same ∙ w.2.1) proper in
+    none one.options (subst (λ (r : AnyRecord). AreOptions r.rdata one.options) w.2.2.is one.filled)
 
 module _ (packet : List ℕ) (labels : List (List ℕ)) (n : ℕ) (asks : Asks packet labels n)
     (only : (others : List (List ℕ)) (m : ℕ) → Asks packet others m → m ≡ n) (s : Sifted packet) where
@@ -312,7 +342,7 @@ module _ (packet : List ℕ) (labels : List (List ℕ)) (n : ℕ) (asks : Asks p
   pub whole_plain : (query : Query) → query ≡ query_of packet labels n None → IsWhole query
   whole_plain query e = subst IsWhole (sym e) (is_whole packet labels n asks only None tt)
 
-  module _ (opt : Opt) (w : WalksTo rest (arcount_of packet) (walked.With opt)) where
+  module _ (opt : Opt) (w : WalksWith rest (arcount_of packet) opt) where
     abbrev records : List AnyRecord
     records = w.0
 
@@ -349,7 +379,7 @@ module _ (packet : List ℕ) (labels : List (List ℕ)) (n : ℕ) (asks : Asks p
     old h = no_version packet labels n asks only records w.1
         (λ new. no_newer r opt is h (subst HasNewVersion one new))
 
-    pub judged_malformed : opt.ttl / 65536 % 256 ≤ 0 → opt.subnet ≡ subnet.Malformed
+    pub judged_malformed : opt.ttl / 65536 % 256 ≤ 0 → opt.subnet ≡ subnet.Faulty
         → IsFirst points Subnet packet
     judged_malformed h bad =
         first_subnet packet s has_proper (old h) (
@@ -358,7 +388,7 @@ module _ (packet : List ℕ) (labels : List (List ℕ)) (n : ℕ) (asks : Asks p
           subst HasMalformedSubnet (sym one) (malformed r opt is bad),
         )
 
-    pub judged_query : opt.ttl / 65536 % 256 ≤ 0 → opt.subnet ≢ subnet.Malformed → (query : Query)
+    pub judged_query : opt.ttl / 65536 % 256 ≤ 0 → opt.subnet ≢ subnet.Faulty → (query : Query)
         → query ≡ query_of packet labels n (Some (edns_of opt)) → Judges packet (read.Query query)
     judged_query h good query e =
         subst (λ q. Judges packet (read.Query q)) (sym e) (

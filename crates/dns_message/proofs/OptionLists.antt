@@ -1,18 +1,15 @@
 -- Options, walked one after another.
-use Rattle.std.proofs.Common.{◌≡◌, ◌≢◌, ℕ, ◌+◌, ◌-◌, ◌<◌, ◌≤◌, ◌==◌, List, [], ◌∷◌, ◌++◌, length, take, drop, get_or, ap, ◌∙◌, sym, refl, subst, arith, append_assoc, length-drop, Bool, true, false, inl, inr}
-use Rattle.std.specs.Prelude.{Option, None, Some, Ok, Err, if◌then◌else◌}
+use Rattle.std.proofs.Common.{◌≡◌, ◌≢◌, ℕ, ◌+◌, ◌-◌, ◌<◌, ◌≤◌, ◌==◌, List, [], ◌∷◌, ◌++◌, length, take, drop, ap, ◌∙◌, sym, refl, subst, arith, append_assoc, length-drop, Bool, true, false, inl, inr}
+use Rattle.std.specs.Prelude.{None, Some, if◌then◌else◌}
 use Rattle.std.specs.Prelude.{◌⊎◌}
 use Rattle.std.proofs.lemmas.List.{drop-drop, drop_all}
 use Rattle.std.proofs.lemmas.Option.{none-some}
 use Rattle.std.proofs.lemmas.Bool.{eq-eqb, ne_eqb}
 use Rattle.octets.specs.Numbers.{number_at}
-use Rattle.ecs_option.specs.Grammar.{Reads}
-use Rattle.ecs_option.specs.declared.subnet.ClientSubnet.{ClientSubnet}
-use Rattle.ecs_option.specs.declared.subnet.Malformed.{Malformed}
 use Rattle.dns_message.specs.Edns.{AreOptions, EdnsOption, first_body, option_at, option_size}
-use Rattle.dns_message.specs.Walk.{HasSubnet}
-use Rattle.dns_message.specs.declared.options.SubnetRead.{SubnetRead}
-use Rattle.dns_message.specs.declared.options.SubnetRead.TheVariants as subnet
+use Rattle.dns_message.specs.Walk.{HasFirst, HasOptions}
+use Rattle.dns_message.specs.declared.walked.Walked.{Walked}
+use Rattle.dns_message.specs.declared.walked.Walked.TheVariants as walked
 
 -- Octets are one list of options at most.
 pub one_list : (octets : List ℕ) (options others : List EdnsOption)
@@ -26,19 +23,19 @@ one_list octets (o ∷ options) (p ∷ others) h k =
     ap (λ x. x ∷ options) first ∙ ap (λ l. p ∷ l) rest
 
 -- what was walked up to a place
-pub record Walked (octets : List ℕ) (at : ℕ) (done : List EdnsOption) : Type 0 where
+pub record Stepped (octets : List ℕ) (at : ℕ) (done : List EdnsOption) : Type 0 where
   pub joins : (rest : List EdnsOption) → AreOptions (drop at octets) rest → AreOptions octets (done ++ rest)
   pub only : (options : List EdnsOption) → AreOptions octets options
       → (rest : List EdnsOption) × (options ≡ done ++ rest) × AreOptions (drop at octets) rest
 
-pub none_yet : (octets : List ℕ) → Walked octets 0 []
+pub none_yet : (octets : List ℕ) → Stepped octets 0 []
 none_yet octets = record { joins = λ rest h. h; only = λ options h. (options, refl, h) }
 
 -- one option more
 pub one_option : (octets : List ℕ) (at : ℕ) (done : List EdnsOption) → at < length octets
     → option_size (drop at octets) ≤ length (drop at octets)
-    → Walked octets at done
-    → Walked octets (at + option_size (drop at octets)) (done ++ option_at (drop at octets) ∷ [])
+    → Stepped octets at done
+    → Stepped octets (at + option_size (drop at octets)) (done ++ option_at (drop at octets) ∷ [])
 one_option octets at done inside whole walked = record {
   joins = λ rest h.
       subst (AreOptions octets) (sym (append_assoc done (option_at (drop at octets) ∷ []) rest))
@@ -63,7 +60,7 @@ one_option octets at done inside whole walked = record {
 -- where no whole option stands, the octets aren't options
 pub broken_off : (octets : List ℕ) (at : ℕ) (done : List EdnsOption) → at < length octets
     → length (drop at octets) < option_size (drop at octets)
-    → Walked octets at done
+    → Stepped octets at done
     → (options : List EdnsOption) → AreOptions octets options → ⊥
 broken_off octets at done inside short walked options h =
     let r = walked.only options h in
@@ -75,7 +72,7 @@ broken_off octets at done inside short walked options h =
 
 -- the octets behind the last option are none
 pub at_the_end : (octets : List ℕ) (at : ℕ) (done : List EdnsOption) → length octets ≤ at
-    → Walked octets at done → AreOptions octets (done ++ [])
+    → Stepped octets at done → AreOptions octets (done ++ [])
 at_the_end octets at done end walked = walked.joins [] (drop_all at octets end)
 
 -- ---- the client subnet
@@ -116,45 +113,39 @@ first_stays code body (o ∷ options) others e =
           ∙ first_stays code body options others (sym (first_isnt code o options n) ∙ e)
     ]
 
-absent : (body : Option (List ℕ)) → HasSubnet body subnet.Absent → body ≡ None
-absent None h = refl
-absent (Some body) h = absurd h
-
--- what is told stays so behind more options
-told_stays : (told : SubnetRead) (first : Option (List ℕ)) (options others : List EdnsOption)
-    → told ≢ subnet.Absent → first_body 8 options ≡ first
-    → HasSubnet first told → HasSubnet (first_body 8 (options ++ others)) told
-told_stays subnet.Absent first options others some e h = absurd (some refl)
-told_stays subnet.Malformed None options others some e h = absurd h
-told_stays subnet.Malformed (Some body) options others some e h =
-    subst (λ b. HasSubnet b subnet.Malformed) (sym (first_stays 8 body options others e)) h
-told_stays (subnet.Told told) None options others some e h = absurd h
-told_stays (subnet.Told told) (Some body) options others some e h =
-    subst (λ b. HasSubnet b (subnet.Told told)) (sym (first_stays 8 body options others e)) h
-
-pub stays : (told : SubnetRead) (options others : List EdnsOption) → told ≢ subnet.Absent
-    → HasSubnet (first_body 8 options) told → HasSubnet (first_body 8 (options ++ others)) told
-stays told options others some h = told_stays told (first_body 8 options) options others some refl h
+-- what is found stays so behind more options
+pub stays : (octets : List ℕ) (options others : List EdnsOption) (found : Walked) → found ≢ walked.Plain
+    → HasFirst octets (first_body 8 options) found → HasFirst octets (first_body 8 (options ++ others)) found
+stays octets options others walked.Broken some h = absurd h
+stays octets options others walked.Plain some h = absurd (some refl)
+stays octets options others (walked.At at) some h = (h.0, first_stays 8 _ options others h.1)
 
 -- another option than the client subnet, behind some that have none
 pub another : (options : List EdnsOption) (o : EdnsOption) → o.code ≢ 8
-    → HasSubnet (first_body 8 options) subnet.Absent
-    → HasSubnet (first_body 8 (options ++ o ∷ [])) subnet.Absent
-another options o other h =
-    let e = absent (first_body 8 options) h in
-    subst (λ b. HasSubnet b subnet.Absent)
-    (sym (first_of_others 8 options (o ∷ []) e ∙ first_isnt 8 o [] (ne_eqb o.code 8 other))) tt
+    → first_body 8 options ≡ None → first_body 8 (options ++ o ∷ []) ≡ None
+another options o other e =
+    first_of_others 8 options (o ∷ []) e ∙ first_isnt 8 o [] (ne_eqb o.code 8 other)
 
 -- the client subnet, behind some that have none
-pub read_here : (options : List EdnsOption) (o : EdnsOption) (told : SubnetRead) → o.code ≡ 8
-    → HasSubnet (first_body 8 options) subnet.Absent → HasSubnet (Some o.body) told
-    → HasSubnet (first_body 8 (options ++ o ∷ [])) told
-read_here options o told code h told_is =
-    let e = absent (first_body 8 options) h in
-    subst (λ b. HasSubnet b told)
-    (sym (first_of_others 8 options (o ∷ []) e ∙ first_is 8 o [] (eq-eqb o.code 8 code))) told_is
+pub stands_here : (octets rest : List ℕ) (at : ℕ) (options : List EdnsOption) → at ≤ length octets
+    → rest ≡ drop at octets → option_size rest ≤ length rest → number_at rest 0 ≡ 8
+    → first_body 8 options ≡ None
+    → HasFirst octets (first_body 8 (options ++ option_at rest ∷ [])) (walked.At at)
+stands_here octets rest at options within is whole code none = (
+  record { within = within; whole = subst (λ l. option_size l ≤ length l) is whole },
+  first_of_others 8 options (option_at rest ∷ []) none
+      ∙ first_is 8 (option_at rest) [] (eq-eqb (number_at rest 0) 8 code)
+      ∙ ap (λ l. Some (option_at l).body) is,
+)
 
 -- the body of the option at the front, by its size
 pub body_of : (octets piece : List ℕ) (size : ℕ) → size ≡ option_size octets
     → piece ≡ take (size - 4) (drop 4 octets) → piece ≡ (option_at octets).body
 body_of octets piece size e p = p ∙ ap (λ n. take n (drop 4 octets)) (omega (arith, e))
+
+-- what walking all options comes to
+pub walked_all : (octets : List ℕ) (options : List EdnsOption) (found : Walked) → AreOptions octets options
+    → HasFirst octets (first_body 8 options) found → HasOptions octets found
+walked_all octets options walked.Broken are h = absurd h
+walked_all octets options walked.Plain are h = (options, are, h)
+walked_all octets options (walked.At at) are h = (options, are, h)

@@ -1,9 +1,9 @@
 -- The owners that octets begin with.
-use Rattle.std.proofs.Common.{◌≡◌, ◌≢◌, ℕ, zero, suc, ◌+◌, ◌-◌, ◌<◌, ◌≤◌, List, [], ◌∷◌, ◌++◌, length, take, drop, get_or, ap, ◌∙◌, sym, refl, subst, arith, inl, inr, min, length-append, length-drop, add-one}
+use Rattle.std.proofs.Common.{◌≡◌, ℕ, zero, suc, ◌+◌, ◌-◌, ◌<◌, ◌≤◌, List, [], ◌∷◌, ◌++◌, length, take, drop, get_or, ap, ◌∙◌, sym, refl, subst, arith, inl, inr, min, length-append, length-drop, add-one}
 use Rattle.std.proofs.lemmas.List.{length-take, length-take-le, drop-take, drop_more}
 use Rattle.std.proofs.Math.Seq.{take-add}
 use Rattle.std.specs.Prelude.{◌⊎◌}
-use Rattle.std.proofs.lemmas.List.{take_at, drop_at, drop-drop}
+use Rattle.std.proofs.lemmas.List.{drop_at, drop-drop}
 use Rattle.dns_name.specs.Labels.{frame, IsRawLabel}
 use Rattle.dns_message.specs.Records.{IsOwner}
 use Rattle.dns_message.specs.Records.IsOwner.{ends, points, goes_on}

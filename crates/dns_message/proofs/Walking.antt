@@ -1,19 +1,17 @@
 -- Records, walked one after another.
-use Rattle.std.proofs.Common.{◌≡◌, ◌≢◌, ℕ, suc, ◌+◌, ◌-◌, ◌<◌, ◌≤◌, ◌==◌, List, [], ◌∷◌, ◌++◌, length, take, drop, get_or, ap, ◌∙◌, sym, refl, subst, arith, append_assoc, append-nil, length-append, length-drop, Bool, true, false, inl, inr, zero}
+use Rattle.std.proofs.Common.{◌≡◌, ◌≢◌, ℕ, suc, ◌+◌, ◌-◌, ◌<◌, ◌≤◌, ◌==◌, List, [], ◌∷◌, ◌++◌, length, take, drop, get_or, ap, ◌∙◌, sym, refl, subst, arith, append_assoc, append-nil, length-append, inl, inr, zero}
 use Rattle.std.specs.Prelude.{if◌then◌else◌}
-use Rattle.std.specs.List.{filter}
-use Rattle.std.proofs.lemmas.List.{drop-drop, drop_more}
+use Rattle.std.proofs.lemmas.List.{drop-drop, drop_more, length-take-le}
 use Rattle.std.proofs.lemmas.List.Elements.{filter-append}
 use Rattle.std.proofs.lemmas.Bool.{eq-eqb, ne_eqb}
 use Rattle.octets.specs.Numbers.{number_at}
 use Rattle.dns_message.specs.Edns.{AreProperOpts, IsProperOpt, opts_of}
 use Rattle.dns_message.specs.Records.{AnyRecord, BeginsWithRecord, BeginsWithRecords, IsOwner, record_of}
-use Rattle.dns_message.specs.Walk.{BeginsWithoutOwner, BeginsWithoutRecord, HasFound, HasPlace, HasRecords, IsOptOf, WalksTo}
-use Rattle.dns_message.specs.declared.records.Opt.{Opt}
+use Rattle.dns_message.specs.Walk.{BeginsWithoutOwner, BeginsWithoutRecord, HasFound, HasPlace, HasRecords, IsRootAt, WalksTo}
 use Rattle.dns_message.specs.declared.records.Place.{Place}
-use Rattle.dns_message.specs.declared.records.Walked.{Walked}
-use Rattle.dns_message.specs.declared.records.Walked.TheVariants as walked
-use Rattle.dns_message.proofs.Owners.{First, first_of, one_owner}
+use Rattle.dns_message.specs.declared.walked.Walked.{Walked}
+use Rattle.dns_message.specs.declared.walked.Walked.TheVariants as walked
+use Rattle.dns_message.proofs.Owners.{first_of, one_owner}
 
 -- the owner of a whole record is within the octets
 owner_within : (octets : List ℕ) (r : AnyRecord) (size : ℕ) (b : BeginsWithRecord octets r size)
@@ -154,10 +152,10 @@ opt_isnt : (r : AnyRecord) → r.rtype ≢ 41 → opts_of (r ∷ []) ≡ []
 opt_isnt r ne = ap (λ b. if b then r ∷ [] else []) (ne_eqb r.rtype 41 ne)
 
 -- another record changes nothing of what is known
-pub another : (opts : List AnyRecord) (r : AnyRecord) (found : Walked) → r.rtype ≢ 41
-    → HasFound opts found → HasFound (opts ++ opts_of (r ∷ [])) found
-another opts r found ne h =
-    subst (λ l. HasFound l found) (sym (ap (λ l. opts ++ l) (opt_isnt r ne) ∙ append-nil opts)) h
+pub another : (octets : List ℕ) (opts : List AnyRecord) (r : AnyRecord) (found : Walked) → r.rtype ≢ 41
+    → HasFound octets opts found → HasFound octets (opts ++ opts_of (r ∷ [])) found
+another octets opts r found ne h =
+    subst (λ l. HasFound octets l found) (sym (ap (λ l. opts ++ l) (opt_isnt r ne) ∙ append-nil opts)) h
 
 proper_is_one : (opts : List AnyRecord) (r : AnyRecord) (others : List AnyRecord)
     → AreProperOpts (opts ++ r ∷ others) → (opts ≡ []) × IsProperOpt r
@@ -167,30 +165,32 @@ proper_is_one (o ∷ []) r others h = absurd h
 proper_is_one (o ∷ p ∷ opts) r others h = absurd h
 
 -- an OPT record behind some that aren't as they have to be, or behind one
-pub second : (opts : List AnyRecord) (r : AnyRecord) (found : Walked) → r.rtype ≡ 41
-    → found ≢ walked.Plain → HasFound opts found → HasFound (opts ++ opts_of (r ∷ [])) walked.Broken
-second opts r walked.Plain e some h = absurd (some refl)
-second opts r walked.Broken e some h = λ others proper.
+pub second : (octets : List ℕ) (opts : List AnyRecord) (r : AnyRecord) (found : Walked) → r.rtype ≡ 41
+    → found ≢ walked.Plain → HasFound octets opts found
+    → HasFound octets (opts ++ opts_of (r ∷ [])) walked.Broken
+second octets opts r walked.Plain e some h = absurd (some refl)
+second octets opts r walked.Broken e some h = λ others proper.
     h (opts_of (r ∷ []) ++ others) (subst AreProperOpts (append_assoc opts (opts_of (r ∷ [])) others) proper)
-second opts r (walked.With opt) e some h = λ others proper.
+second octets opts r (walked.At at) e some h = λ others proper.
     let shape : (opts ++ opts_of (r ∷ [])) ++ others ≡ opts ++ (r ∷ others) =
     append_assoc opts (opts_of (r ∷ [])) others ∙ ap (λ l. opts ++ (l ++ others)) (opt_is r e) in
     let one = proper_is_one opts r others (subst AreProperOpts shape proper) in
     let none : length opts ≡ 0 = ap length one.0 in
     omega (arith, none, ap length h.1)
 
--- the first OPT record, as it has to be
-pub first_opt : (opts : List AnyRecord) (r : AnyRecord) (opt : Opt) → r.rtype ≡ 41
-    → HasFound opts walked.Plain → IsOptOf r opt → HasFound (opts ++ opts_of (r ∷ [])) (walked.With opt)
-first_opt opts r opt e none h =
+-- the first OPT record, whose owner is the root
+pub first_opt : (octets : List ℕ) (opts : List AnyRecord) (r : AnyRecord) (at : ℕ) → r.rtype ≡ 41
+    → opts ≡ [] → IsRootAt octets at r → HasFound octets (opts ++ opts_of (r ∷ [])) (walked.At at)
+first_opt octets opts r at e none h =
     (r, ap (λ l. l ++ opts_of (r ∷ [])) none ∙ opt_is r e, h)
 
-pub first_broken : (opts : List AnyRecord) (r : AnyRecord) → r.rtype ≡ 41
-    → HasFound opts walked.Plain → (IsProperOpt r → ⊥) → HasFound (opts ++ opts_of (r ∷ [])) walked.Broken
-first_broken opts r e none broken = λ others proper.
+-- the first OPT record, whose owner isn't
+pub first_broken : (octets : List ℕ) (opts : List AnyRecord) (r : AnyRecord) → r.rtype ≡ 41
+    → opts ≡ [] → (r.owner ≡ 0 ∷ [] → ⊥) → HasFound octets (opts ++ opts_of (r ∷ [])) walked.Broken
+first_broken octets opts r e none other = λ others proper.
     let shape : (opts ++ opts_of (r ∷ [])) ++ others ≡ opts ++ (r ∷ others) =
     append_assoc opts (opts_of (r ∷ [])) others ∙ ap (λ l. opts ++ (l ++ others)) (opt_is r e) in
-    broken (proper_is_one opts r others (subst AreProperOpts shape proper)).1
+    other (proper_is_one opts r others (subst AreProperOpts shape proper)).1.owner
 
 -- an owner is the root's zero octet exactly where it begins with that
 pub root_owner : (octets : List ℕ) (n : ℕ) → n ≤ length octets → IsOwner (take n octets)
@@ -212,22 +212,32 @@ other_owner [] (suc n) other e = other refl
 other_owner (x ∷ xs) zero other e = absurd (let z : 0 ≡ 1 = ap length e in omega (arith, z))
 other_owner (x ∷ xs) (suc n) other e = other (ap (λ l. get_or l 0 0) e)
 
--- what an OPT record has
+-- the place of an OPT record
 module _ (octets : List ℕ) (place : Place) (h : HasPlace octets place) where
   within : place.owner_len + 10 ≤ length octets
   within = omega (arith, h.sized, h.whole)
 
-  pub rdata_is : (piece : List ℕ)
-      → piece ≡ take (place.size - (place.owner_len + 10)) (drop (place.owner_len + 10) octets)
-      → piece ≡ (record_of octets place.owner_len).rdata
-  rdata_is piece e = e ∙ ap (λ n. take n (drop (place.owner_len + 10) octets)) (omega (arith, h.sized))
-
-  pub is_root : get_or octets 0 0 ≡ 0 → take place.owner_len octets ≡ 0 ∷ []
+  is_root : get_or octets 0 0 ≡ 0 → take place.owner_len octets ≡ 0 ∷ []
   is_root = root_owner octets place.owner_len (omega (arith, within)) h.owner
+
+  pub root_at : (all : List ℕ) (at : ℕ) → at ≤ length all → octets ≡ drop at all → get_or octets 0 0 ≡ 0
+      → IsRootAt all at (record_of octets place.owner_len)
+  root_at all at inside is first =
+      let root = is_root first in
+      let one : place.owner_len ≡ 1 =
+      sym (length-take-le place.owner_len octets (omega (arith, within))) ∙ ap length root in
+      let whole : 11 + number_at octets 9 ≤ length octets =
+      omega (arith, h.sized, h.whole, one, ap (λ k. number_at octets (k + 8)) one) in
+      record {
+        within = inside;
+        whole = subst (λ l. 11 + number_at l 9 ≤ length l) is whole;
+        root = subst (λ l. take 1 l ≡ 0 ∷ []) is (subst (λ k. take k octets ≡ 0 ∷ []) one root);
+        is = ap (record_of octets) one ∙ ap (λ l. record_of l 1) is;
+      }
 
 -- what walking all records comes to
 pub walked_all : (octets : List ℕ) (at count : ℕ) (done : List AnyRecord) (found : Walked)
-    → length done ≡ count → Passed octets at done → HasFound (opts_of done) found
+    → length done ≡ count → Passed octets at done → HasFound octets (opts_of done) found
     → WalksTo octets count found
 walked_all octets at count done walked.Broken size passed h = λ records has proper.
     let same : records ≡ done = only_those octets at done passed records
@@ -235,5 +245,5 @@ walked_all octets at count done walked.Broken size passed h = λ records has pro
     h [] (subst (λ l. AreProperOpts l) (ap opts_of same ∙ sym (append-nil (opts_of done))) proper)
 walked_all octets at count done walked.Plain size passed h =
     (done, subst (λ n. HasRecords octets n done) size (has_all octets at done passed), h)
-walked_all octets at count done (walked.With opt) size passed h =
+walked_all octets at count done (walked.At opt) size passed h =
     (done, subst (λ n. HasRecords octets n done) size (has_all octets at done passed), h)

@@ -12,6 +12,7 @@ pub mod rcode;
 mod read;
 mod records;
 mod verdict;
+mod walked;
 
 pub use ecs_option::ClientSubnet;
 pub use laws::{one_judgement, one_list_of_options, one_record, one_split};

@@ -1,43 +1,33 @@
 //! The options of an OPT record, walked for the client subnet among them (RFC 6891, 6.1.2; RFC 7871, 6).
 
-ghost use Rattle.std.specs.Prelude.{◌≡◌, ◌≤◌, ◌<◌, ◌-◌, List, ◌∷◌, [], ◌++◌, length, take, drop, IfSome, IfNone, Some};
-ghost use Rattle.dns_message.specs.Edns.{AreOptions, EdnsOption, first_body, option_at, option_size};
-ghost use Rattle.dns_message.specs.Walk.{HasSubnet};
+ghost use Rattle.std.specs.Prelude.{◌≡◌, ◌≤◌, ◌<◌, ◌-◌, ℕ, List, ◌∷◌, [], ◌++◌, length, take, drop, IfSome, IfNone};
+ghost use Rattle.dns_message.specs.Edns.{EdnsOption, first_body, option_at, option_size};
+ghost use Rattle.dns_message.specs.Walk.{HasFirst, HasOptions, IsOptionAt};
 
-use ecs_option::ClientSubnet;
+use crate::walked::Walked;
 use octets::{behind, number_at};
 
 /// The code of the client subnet (RFC 7871, 6).
 const CLIENT_SUBNET: u16 = 8;
 
-/// What the first option of that code tells.
-#[derive(Clone, Copy)]
-pub(crate) enum SubnetRead {
-    /// There is none.
-    Absent,
-    /// It is malformed.
-    Malformed,
-    /// A client's network.
-    Told(ClientSubnet),
-}
+/// The octets of an option in front of its data.
+const HEAD_LEN: usize = 4;
 
-/// What the options tell of the client's network, or none where the data aren't options.
-pub(crate) fn subnet_among(body: &[u8]) -> Option<SubnetRead>
-    ensures some { IfSome result (λ subnet. (options : List EdnsOption)
-        × AreOptions body.now options × HasSubnet (first_body 8 options) subnet) }
-    ensures none { IfNone result ((options : List EdnsOption) → AreOptions body.now options → ⊥) }
+/// The first option of that code, or that the data aren't options.
+pub(crate) fn subnet_among(body: &[u8]) -> Walked
+    ensures { HasOptions body.now result }
 {
     let mut at = 0;
-    let mut subnet = SubnetRead::Absent;
+    let mut found = Walked::Plain;
     while at < body.len() {
         let rest = behind(body, at);
         let Some(size) = option_len(rest) else {
-            return None;
+            return Walked::Broken;
         };
-        subnet = with_option(subnet, rest, size);
+        found = with_option(found, rest, at);
         at += size;
     }
-    Some(subnet)
+    found
 }
 
 /// How many octets the option at the front has, if it is whole.
@@ -46,40 +36,39 @@ fn option_len(octets: &[u8]) -> Option<usize>
     ensures within { IfSome result (λ size. size ≤ length octets.now) }
     ensures none { IfNone result (length octets.now < option_size octets.now) }
 {
-    if octets.len() < 4 {
+    if octets.len() < HEAD_LEN {
         return None;
     }
-    let size = 4 + number_at(octets, 2) as usize;
+    let size = HEAD_LEN + number_at(octets, 2) as usize;
     if size > octets.len() {
         return None;
     }
     Some(size)
 }
 
-/// What is told when one more option was looked at, the one of this size at the front.
-fn with_option(subnet: SubnetRead, octets: &[u8], size: usize) -> SubnetRead
-    requires size { size ≡ option_size octets.now }
-    requires whole { size ≤ length octets.now }
-    ensures { (options : List EdnsOption) → HasSubnet (first_body 8 options) subnet
-        → HasSubnet (first_body 8 (options ++ option_at octets.now ∷ [])) result }
+/// What is known when one more option was looked at, the one at the front, which stands at a place.
+fn with_option(found: Walked, octets: &[u8], at: usize) -> Walked
+    requires { option_size octets.now ≤ length octets.now }
+    ensures { (all : List ℕ) (options : List EdnsOption) → at ≤ length all → octets.now ≡ drop at all
+        → HasFirst all (first_body 8 options) found
+        → HasFirst all (first_body 8 (options ++ option_at octets.now ∷ [])) result }
 {
-    let SubnetRead::Absent = subnet else {
-        return subnet;
+    let Walked::Plain = found else {
+        return found;
     };
     if number_at(octets, 0) != CLIENT_SUBNET {
-        return SubnetRead::Absent;
+        return Walked::Plain;
     }
-    read_subnet(piece(octets, 4, size))
+    Walked::At(at)
 }
 
-/// What an option of that code tells.
-fn read_subnet(body: &[u8]) -> SubnetRead
-    ensures { HasSubnet (Some body.now) result }
+/// The data of the option at a place.
+pub(crate) fn body_at(octets: &[u8], at: usize) -> &[u8]
+    requires { IsOptionAt octets.now at }
+    ensures { result.now ≡ (option_at (drop at octets.now)).body }
 {
-    match ecs_option::read(body) {
-        Ok(subnet) => SubnetRead::Told(subnet),
-        Err(_) => SubnetRead::Malformed,
-    }
+    let option = behind(octets, at);
+    piece(option, HEAD_LEN, HEAD_LEN + number_at(option, 2) as usize)
 }
 
 /// What stands between two places.

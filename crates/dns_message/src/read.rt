@@ -9,10 +9,11 @@ ghost use Rattle.dns_message.specs.Question.{Asks, HasNoQuestion};
 ghost use Rattle.dns_message.specs.Verdict.{read_as};
 ghost use Rattle.dns_message.specs.Whole.{GivesWhole};
 
-use crate::edns::{edns_of, is_malformed, version_of};
+use crate::edns::{read_opt, version_of};
 use crate::rcode::{FORMERR, NOTIMP};
-use crate::records::{Walked, opt_among};
+use crate::records::opt_among;
 use crate::verdict::Verdict;
+use crate::walked::Walked;
 use crate::{Query, QueryRead};
 use dns_name::Name;
 use octets::{behind, fill_front, number_at};
@@ -75,13 +76,15 @@ pub fn read_over(packet: &[u8], query: &mut Query) -> Verdict
     let opt = match opt_among(records, number_at(packet, 10)) {
         Walked::Broken => return bad(packet, FORMERR),
         Walked::Plain => return Verdict::Query,
-        Walked::With(opt) => opt,
+        Walked::At(at) => behind(records, at),
     };
-    query.edns = Some(edns_of(opt));
+    let Some(is_malformed) = read_opt(opt, &mut query.edns) else {
+        return bad(packet, FORMERR);
+    };
     if version_of(opt) > 0 {
         return Verdict::BadVersion;
     }
-    if is_malformed(opt) {
+    if is_malformed {
         return bad(packet, FORMERR);
     }
     Verdict::Query

@@ -1,13 +1,13 @@
 //! The additional records, walked for the OPT record among them (RFC 1035, 4.1.3; RFC 6891, 6.1.1).
 
-ghost use Rattle.std.specs.Prelude.{◌≡◌, List, ◌∷◌, [], ◌++◌, IfSome, IfNone};
-ghost use Rattle.dns_message.specs.Edns.{IsProperOpt, opts_of};
+ghost use Rattle.std.specs.Prelude.{◌≡◌, ◌≤◌, ℕ, List, ◌∷◌, [], ◌++◌, length, drop, IfSome, IfNone};
+ghost use Rattle.dns_message.specs.Edns.{opts_of};
 ghost use Rattle.dns_message.specs.Records.{AnyRecord, record_of};
-ghost use Rattle.dns_message.specs.Walk.{BeginsWithoutRecord, HasPlace, HasFound, IsOptOf, WalksTo};
+ghost use Rattle.dns_message.specs.Walk.{BeginsWithoutRecord, HasPlace, HasFound, WalksTo};
 
-use crate::options::{SubnetRead, piece, subnet_among};
 use crate::owner::owner_len;
-use octets::{behind, long_at, number_at};
+use crate::walked::Walked;
+use octets::{behind, number_at};
 
 /// The type of the record (RFC 6891, 6.1.1).
 const OPT: u16 = 41;
@@ -24,28 +24,6 @@ struct Place {
     size: usize,
 }
 
-/// What an OPT record has.
-#[derive(Clone, Copy)]
-pub(crate) struct Opt {
-    /// Its CLASS.
-    pub class: u16,
-    /// Its TTL.
-    pub ttl: u32,
-    /// What its options tell of the client's network.
-    pub subnet: SubnetRead,
-}
-
-/// What walking the records came to.
-#[derive(Clone, Copy)]
-pub(crate) enum Walked {
-    /// They aren't whole, or their OPT records aren't as they have to be.
-    Broken,
-    /// They are whole, and have no OPT record.
-    Plain,
-    /// They are whole, and have this one.
-    With(Opt),
-}
-
 /// The OPT record among so many records at the front.
 pub(crate) fn opt_among(octets: &[u8], count: u16) -> Walked
     ensures { WalksTo octets.now count result }
@@ -57,7 +35,7 @@ pub(crate) fn opt_among(octets: &[u8], count: u16) -> Walked
         let Some(place) = place_of(rest) else {
             return Walked::Broken;
         };
-        found = with_record(found, rest, place);
+        found = with_record(found, rest, at, place);
         at += place.size;
     }
     found
@@ -81,11 +59,12 @@ fn place_of(octets: &[u8]) -> Option<Place>
     Some(Place { owner_len, size })
 }
 
-/// What is known when one more record was looked at.
-fn with_record(found: Walked, octets: &[u8], place: Place) -> Walked
+/// What is known when one more record was looked at, the one at the front, which stands at a place.
+fn with_record(found: Walked, octets: &[u8], at: usize, place: Place) -> Walked
     requires { HasPlace octets.now place }
-    ensures { (opts : List AnyRecord) → HasFound opts found
-        → HasFound (opts ++ opts_of (record_of octets.now place.owner_len ∷ [])) result }
+    ensures { (all : List ℕ) (opts : List AnyRecord) → at ≤ length all → octets.now ≡ drop at all
+        → HasFound all opts found
+        → HasFound all (opts ++ opts_of (record_of octets.now place.owner_len ∷ [])) result }
 {
     if number_at(octets, place.owner_len) != OPT {
         return found;
@@ -93,28 +72,8 @@ fn with_record(found: Walked, octets: &[u8], place: Place) -> Walked
     let Walked::Plain = found else {
         return Walked::Broken;
     };
-    match opt_of(octets, place) {
-        Some(opt) => Walked::With(opt),
-        None => Walked::Broken,
-    }
-}
-
-/// What the OPT record at the front has, where it is as it has to be.
-fn opt_of(octets: &[u8], place: Place) -> Option<Opt>
-    requires { HasPlace octets.now place }
-    ensures some { IfSome result (IsOptOf (record_of octets.now place.owner_len)) }
-    ensures none { IfNone result (IsProperOpt (record_of octets.now place.owner_len) → ⊥) }
-{
     if octets[0] != 0 {
-        return None;
+        return Walked::Broken;
     }
-    let data = piece(octets, place.owner_len + FIXED_LEN, place.size);
-    let Some(subnet) = subnet_among(data) else {
-        return None;
-    };
-    Some(Opt {
-        class: number_at(octets, place.owner_len + 2),
-        ttl: long_at(octets, place.owner_len + 4),
-        subnet,
-    })
+    Walked::At(at)
 }

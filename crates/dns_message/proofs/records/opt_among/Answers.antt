@@ -1,6 +1,6 @@
-use Rattle.std.proofs.Common.{◌≡◌, ◌++◌, [], ◌∷◌, arith, refl, subst, ap, sym, length, length-append, length-drop, drop}
+use Rattle.std.proofs.Common.{◌++◌, [], ◌∷◌, arith, refl, subst, sym, length-append, length-drop, drop}
 use Rattle.dns_message.specs.Edns.{opts_of}
-use Rattle.dns_message.specs.Records.{BeginsWithRecord, record_of}
+use Rattle.dns_message.specs.Records.{record_of}
 use Rattle.dns_message.specs.Walk.{BeginsWithoutRecord, HasFound, HasPlace}
 use Rattle.dns_message.proofs.Walking.{none_yet, one_more, broken_off, placed, opts_append, walked_all}
 use Rattle.dns_message.proofs.records.opt_among.Goals as goal
@@ -25,14 +25,14 @@ loop-preserved c =
     let here : HasPlace (drop c.loop.at octets) place = subst (λ l. HasPlace l place) c.behind-rest.ensures c.in-Some.ensures.some in
     let r = record_of (drop c.loop.at octets) place.owner_len in
     let passed = one_more octets c.loop.at place.size r i.1 (placed (drop c.loop.at octets) place here) i.3 in
-    let found : HasFound (opts_of i.1 ++ opts_of (r ∷ [])) c.with_record-found.result =
-    subst (λ l. HasFound (opts_of i.1 ++ opts_of (record_of l place.owner_len ∷ [])) c.with_record-found.result)
-    c.behind-rest.ensures (c.with_record-found.ensures (opts_of i.1) i.4) in (
+    let found : HasFound octets (opts_of i.1 ++ opts_of (r ∷ [])) c.with_record-found.result =
+    subst (λ l. HasFound octets (opts_of i.1 ++ opts_of (record_of l place.owner_len ∷ [])) c.with_record-found.result)
+    c.behind-rest.ensures (c.with_record-found.ensures octets (opts_of i.1) i.0 c.behind-rest.ensures i.4) in (
       omega (arith, i.0, here.whole, length-drop c.loop.at octets),
       i.1 ++ r ∷ [],
       omega (arith, i.2, length-append i.1 (r ∷ [])),
       passed,
-      subst (λ l. HasFound l c.with_record-found.result) (sym (opts_append i.1 (r ∷ []))) found,
+      subst (λ l. HasFound octets l c.with_record-found.result) (sym (opts_append i.1 (r ∷ []))) found,
     )
 
 pub returns : goal.returns

@@ -1,4 +1,4 @@
-use Rattle.std.proofs.Common.{◌≡◌, ℕ, ◌≤◌, List, length}
+use Rattle.std.proofs.Common.{◌≡◌, ◌≤◌, List, length}
 use Rattle.dns_message.specs.Edns.{opts_of}
 use Rattle.dns_message.specs.Records.{AnyRecord}
 use Rattle.dns_message.specs.Walk.{HasFound}
@@ -7,4 +7,4 @@ use Rattle.dns_message.proofs.records.opt_among.Given as goal
 
 abbrev pub invariant-loop : goal.invariant-loop
 invariant-loop l = (l.at ≤ length l.octets) × (done : List AnyRecord) × (length done ≡ l.counter)
-    × Passed l.octets l.at done × HasFound (opts_of done) l.found
+    × Passed l.octets l.at done × HasFound l.octets (opts_of done) l.found
