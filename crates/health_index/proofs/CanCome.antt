@@ -15,8 +15,8 @@ use Rattle.health_index.proofs.Keyed.{grouped, grouped_sets}
 use Rattle.health_index.proofs.Staying.{CameBy, WentBy, group_now, in_filter}
 use Rattle.health_index.specs.Index.{Index, StandsFor}
 use Rattle.health_index.proofs.Regrouped.{watched_on}
-use Rattle.health_index.specs.Founding.{ComesFirst}
-use Rattle.health_index.specs.Laws.{AliasesCanCome, FirstCanCome}
+use Rattle.health_index.specs.Founding.{ComesFirst, ComesFirstOwned}
+use Rattle.health_index.specs.Laws.{AliasesCanCome, FirstCanCome, FirstOwnedCanCome}
 use Rattle.health_index.specs.Leading.{ComesToLead, HasItsCheck, feeders_with}
 use Rattle.health_index.specs.Leaving.{HasNoValve, Moves}
 use Rattle.health_index.specs.Regrouping.{HasCome}
@@ -26,6 +26,7 @@ use Rattle.health_model.specs.Statuses.{Report}
 use Rattle.health_planning.proofs.Built.{checks_there, targets_there}
 use Rattle.health_planning.proofs.Members.{one_named}
 use Rattle.health_planning.proofs.MembersOfZoneList.{set_in}
+use Rattle.health_planning.proofs.Watching.{zone_sets}
 use Rattle.health_planning.proofs.Wiring.{of_group, passes_it, same_names}
 use Rattle.health_planning.specs.DeltaRecord.{Delta}
 use Rattle.health_planning.specs.Edits.{Edits, IsAllowed}
@@ -33,7 +34,7 @@ use Rattle.health_planning.specs.Looking.{RefersTo}
 use Rattle.health_planning.specs.SetRefRecord.{SetRef}
 use Rattle.health_planning.specs.Tables.{HaveSlotsApart}
 use Rattle.health_planning.specs.Telling.{evaluates, target_in}
-use Rattle.health_planning.specs.Wired.{AreMembers, IsLedTo, group_seat, ids_of, is_watched, own_part, set_seat, valve_with, watched_of}
+use Rattle.health_planning.specs.Wired.{AreMembers, IsLedTo, group_seat, ids_of, is_watched, own_part, seat_of, set_seat, valve_with, watched_of}
 use Rattle.health_planning.specs.declared.seats.Seat.{Seat}
 use Rattle.health_planning.specs.ZoneEditRecord.{ZoneEdit}
 use Rattle.health_planning.specs.Zones.{AreZones, Zone, placed_in}
@@ -45,11 +46,19 @@ use Rattle.record_set.specs.declared.sets.Body.{Body}
 use Rattle.record_set.specs.declared.sets.Body.TheVariants as body
 use Rattle.record_set.specs.declared.sets.RecordSet.{RecordSet}
 use Rattle.zone_model.specs.Slotted.{IsHere, Slotted, sets_of}
-use Rattle.zone_model.specs.Walks.{HasNoTarget}
-use Rattle.zone_model.specs.Zones.{IsAmong, group, is_of_group, target_group_of}
+use Rattle.zone_model.specs.Walks.{HasNoTarget, IsTooDeep, IsWalk}
+use Rattle.zone_model.specs.Zones.{IsAmong, group, is_of_group, target_group, target_group_of}
 
 all_of : (P : ℕ → Type 0) (xs : List ℕ) → ((x : ℕ) → Contains xs x → P x) → All P xs
 all_of P xs each k d below = each (get_or xs k d) (Contains-get_or xs k d below)
+
+abbrev copies : RecordSet → ℕ → List RecordSet
+copies set zero = []
+copies set (suc n) = set ∷ copies set n
+
+copies_long : (set : RecordSet) (n : ℕ) → length (copies set n) ≡ n
+copies_long set zero = refl
+copies_long set (suc n) = ap suc (copies_long set n)
 
 module _ (before after : List Zone) (checks : Checks) (reports : List Report) (index : Index)
     (stands : StandsFor before checks reports index) (are_after : AreZones after)
@@ -247,6 +256,83 @@ module _ (before after : List Zone) (checks : Checks) (reports : List Report) (i
         ),
       )
 
+  -- it is none of its target group: else a walk of aliases led from it to itself
+  loops : (its : List RecordSet) → IsAmong its set → IsAlias set.body → IsAmong (target_group its set) set → (n : ℕ)
+      → IsWalk its (set ∷ copies set n)
+  loops its here alias self zero = (here, alias)
+  loops its here alias self (suc n) = (here, alias, self, loops its here alias self n)
+
+  never_itself : (name : List (List ℕ)) → set.body ≡ body.Alias name true
+      → IsAmong (group (sets_of (placed_in after ref.zone)) name set.rtype) set → ⊥
+  never_itself name is self =
+      let its = sets_of (placed_in after ref.zone) in
+      let same = zone_sets after checks ref.zone in
+      let here = set_in (placed_in after ref.zone) (record { slot = ref.slot; set = set }) names in
+      let alias : IsAlias set.body = subst IsAlias (sym is) tt in
+      let target : IsAmong (target_group its set) set =
+      subst (λ (b : Body). IsAmong (target_group_of its set.rtype b) set) (sym is) self in
+      let long = copies_long set 16 in
+      sound.aliases ref.zone set (subst (λ (l : List RecordSet). IsAmong l set) (sym same) here)
+      (subst (λ (l : List RecordSet). IsTooDeep l set) (sym same)
+      (copies set 16, loops its here alias target 16, omega (arith, long)))
+
+  pub comes_owned : (name : List (List ℕ)) → set.body ≡ body.Alias name true
+      → (IsLedTo before ref.zone name set.rtype → ⊥)
+      → ((p : Slotted) → IsHere (placed_in after ref.zone) p → name ≡ p.set.name → set.rtype ≡ p.set.rtype
+      → set_seat seats p.slot ≡ seat_of seats p.slot)
+      → (members : List Slotted) × ((feeders : List ℕ)
+      × ComesFirstOwned after index.ids index.numbers index.seats index.valves ref members feeders)
+  comes_owned name is no_leader own =
+      let members = grouped name set.rtype (placed_in after ref.zone) in
+      let are : AreMembers after ref.zone name set.rtype members = record {
+        sets = grouped_sets name set.rtype (placed_in after ref.zone);
+        here = λ q m. of_filter (λ (x : Slotted). is_of_group name set.rtype x.set) (placed_in after ref.zone) q m;
+      } in
+      let among : (p : Slotted) → IsHere members p → IsAmong (group (sets_of (placed_in after ref.zone)) name set.rtype) p.set =
+      λ p m. subst (λ (l : List RecordSet). IsAmong l p.set) are.sets (set_in members p m) in
+      let of : (p : Slotted) → IsHere members p → (name ≡ p.set.name) × (set.rtype ≡ p.set.rtype) =
+      λ p m. of_group (sets_of (placed_in after ref.zone)) name set.rtype p.set (among p m) in
+      let apart : (p : Slotted) → IsHere members p → p.slot ≡ ref.slot → ⊥ =
+      λ p m e.
+      let same = one_named after ref p.set set are_after
+      (subst (λ (n : ℕ). IsHere (placed_in after ref.zone) (record { slot = n; set = p.set })) e (are.here p m)) names in
+      never_itself name is (subst (IsAmong (group (sets_of (placed_in after ref.zone)) name set.rtype)) same (among p m)) in (
+        members,
+        (
+          map (valve_with index.ids index.numbers) (option_to_list set.check),
+          record {
+            set = set;
+            names = names;
+            on = ap evaluates is;
+            bare = bare;
+            none = none;
+            alone = alone;
+            its_check = its_check set.check refl;
+            its_target = record {
+              name = name;
+              rtype = set.rtype;
+              target = ap (target_in set.rtype) is;
+              are = are;
+              some = some_in members (λ e. targets_there after checks sound ref set names
+                  (no_target (sets_of (placed_in after ref.zone)) name is (sym are.sets ∙ ap (λ (l : List Slotted). sets_of l) e)));
+              own = λ p m.
+                  let here = was_here before after checks reports index stands are_after slots_after delta ref come set names made allowed edits
+                  ref.zone p (are.here p m) (apart p m) in (
+                    apart p m,
+                    (
+                      own p (are.here p m) (of p m).0 (of p m).1,
+                      bare_of name set.rtype no_leader p here (of p m).0 (of p m).1,
+                    ),
+                  );
+            };
+            are = refl;
+            within = all_of (λ x. x < size_of index.valves) (map (valve_with index.ids index.numbers) (option_to_list set.check))
+                (front_below set.check refl);
+            many = many;
+          },
+        ),
+      )
+
 pub can_come : AliasesCanCome
 can_come before after checks reports index made delta ref set name stands are_after slots_after sound allowed edits come names is none_leads led =
     comes before after checks reports index stands are_after slots_after sound delta ref come set names made allowed edits none_leads name is led
@@ -254,3 +340,7 @@ can_come before after checks reports index made delta ref set name stands are_af
 pub can_come_first : FirstCanCome
 can_come_first before after checks reports index made delta ref set name stands are_after slots_after sound allowed edits come names is none_leads no_leader off =
     comes_first before after checks reports index stands are_after slots_after sound delta ref come set names made allowed edits none_leads name is no_leader off
+
+pub can_come_owned : FirstOwnedCanCome
+can_come_owned before after checks reports index made delta ref set name stands are_after slots_after sound allowed edits come names is none_leads no_leader own =
+    comes_owned before after checks reports index stands are_after slots_after sound delta ref come set names made allowed edits none_leads name is no_leader own

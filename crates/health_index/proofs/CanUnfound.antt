@@ -1,21 +1,19 @@
 -- What an index has where an evaluated alias went, and none leads to its target group any more.
-use Rattle.std.proofs.Common.{◌≡◌, ◌<◌, ℕ, suc, true, List, arith, ap, sym, ◌∙◌, inl, inr}
+use Rattle.std.proofs.Common.{◌<◌, ℕ, true, List, arith, ap, sym, ◌∙◌, inl, inr}
 use Rattle.std.proofs.lemmas.Bool.{cases_eq}
 use mathlib.Core.Path.{subst}
-use Rattle.check_model.specs.Checks.{Checks}
 use Rattle.health_index.proofs.CanRegroup.{names_none}
 use Rattle.health_index.proofs.CanUnlead.{fed_in_both, no_group}
 use Rattle.health_index.proofs.GroupLeft.{is_one}
 use Rattle.health_index.proofs.Leading.{fed_alias, led_alias, one_group}
 use Rattle.health_index.proofs.Moving.{moved}
-use Rattle.health_index.specs.Index.{Index, StandsFor}
 use Rattle.health_index.specs.Laws.{LastCanLeave}
 use Rattle.health_planning.specs.Changes.{ref_in}
 use Rattle.health_planning.specs.SetRefRecord.{SetRef}
 use Rattle.health_planning.specs.Wired.{group_seat, seat_of}
 use Rattle.health_planning.specs.Zones.{placed_in}
 use Rattle.record_set.specs.declared.sets.Body.TheVariants as body
-use Rattle.zone_model.specs.Slotted.{IsHere, Slotted}
+use Rattle.zone_model.specs.Slotted.{IsHere}
 
 pub can_unfound : LastCanLeave
 can_unfound before after checks reports index made delta ref p name stands are_after allowed edits gone here slot is none_leads none_led =

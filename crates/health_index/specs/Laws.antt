@@ -20,13 +20,13 @@ use Rattle.record_set.specs.declared.sets.RecordSet.{RecordSet}
 use Rattle.zone_model.specs.Slotted.{IsHere, Slotted}
 use Rattle.health_model.specs.Sound.{IsSound}
 use Rattle.health_planning.specs.Later.{AreLater}
-use Rattle.health_planning.specs.Wired.{IsLedTo, group_seat, is_watched, set_seat, watched_of}
+use Rattle.health_planning.specs.Wired.{IsLedTo, group_seat, is_watched, seat_of, set_seat, watched_of}
 use Rattle.health_index.specs.Following.{IsOpenTo, IsWay}
 use Rattle.health_index.specs.declared.following.Way.{Way}
 use Rattle.health_index.specs.declared.following.Way.TheVariants as way
 use Rattle.health_index.specs.Index.{AreNumbered, Index, IsEndpoint, IsEndpointOf, IsLaidFor, StandsFor, Tells}
 use Rattle.health_index.specs.Kin.{kin_of}
-use Rattle.health_index.specs.Founding.{ComesFirst}
+use Rattle.health_index.specs.Founding.{ComesFirst, ComesFirstOwned}
 use Rattle.health_index.specs.Leading.{ComesToLead}
 use Rattle.health_index.specs.Room.{HasRoom, HasRoomForAlias, HasRoomForFirst, IsLaidAnew}
 use Rattle.health_index.specs.Regrouping.{HasCome, HasGone, JoinsGroup, LeavesGroup, TellNoOther}
@@ -157,6 +157,20 @@ FirstCanCome = (before after : List Zone) (checks : Checks) (reports : List Repo
     → is_watched p.set ≡ false)
     → (members : List Slotted) × ((feeders : List ℕ)
     × ComesFirst after index.ids index.numbers index.seats index.valves ref members feeders)
+
+-- The same, where each set of the target group has a valve of its own, or nothing decides it: so it is after the last alias
+-- went that led to the group, and where the group is one of evaluated aliases.
+abbrev pub FirstOwnedCanCome : Type 0
+FirstOwnedCanCome = (before after : List Zone) (checks : Checks) (reports : List Report) (index : Index)
+    (made : ZoneEdit) (delta : Delta) (ref : SetRef) (set : RecordSet) (name : List (List ℕ))
+    → StandsFor before checks reports index → AreZones after → HaveSlotsApart after
+    → IsSound (watched_of after checks) → IsAllowed before made → Edits before made after delta
+    → HasCome delta ref → RefersTo after ref set → set.body ≡ body.Alias name true
+    → (IsLedTo before ref.zone set.name set.rtype → ⊥) → (IsLedTo before ref.zone name set.rtype → ⊥)
+    → ((p : Slotted) → IsHere (placed_in after ref.zone) p → name ≡ p.set.name → set.rtype ≡ p.set.rtype
+    → set_seat index.seats p.slot ≡ seat_of index.seats p.slot)
+    → (members : List Slotted) × ((feeders : List ℕ)
+    × ComesFirstOwned after index.ids index.numbers index.seats index.valves ref members feeders)
 
 -- There is room for one set more to be noted or listed, and for a valve of its own; and for one of its target group and
 -- so many sets of that.

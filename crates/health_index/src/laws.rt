@@ -2,7 +2,7 @@
 
 ghost use Rattle.health_index.specs.Laws.{AliasesCanCome, AliasesCanLeave, AliasesHaveRoom, ChecksAreLater};
 ghost use Rattle.health_index.specs.Laws.{ChecksCanFollow, CommandsCanFollow, NodesAreNumbered, NodesHaveValues};
-ghost use Rattle.health_index.specs.Laws.{FirstCanCome, IndexTells, LastCanLeave, SetsCanJoin, SetsCanLeave};
+ghost use Rattle.health_index.specs.Laws.{FirstCanCome, FirstOwnedCanCome, IndexTells, LastCanLeave, SetsCanJoin, SetsCanLeave};
 ghost use Rattle.health_index.specs.Laws.{StandsWhereAllMeet};
 
 use health_model::one_health;
@@ -73,6 +73,11 @@ pub fn aliases_can_come()
 /// leads where it leads, and nothing decides any set there, the index has what it wants to give both a valve in place.
 pub fn first_can_come()
     ensures { FirstCanCome }
+{}
+
+/// The same, where each set of the target group has a valve of its own, or nothing decides it.
+pub fn first_owned_can_come()
+    ensures { FirstOwnedCanCome }
 {}
 
 /// Where all was laid out at once, as `rebuild` does and `on_command` where nothing else is said of it, and an index has

@@ -31,6 +31,6 @@ pub use health_valves::Steps;
 pub use index::HealthIndex;
 pub use laws::{
     aliases_can_come, aliases_can_leave, aliases_have_room, checks_are_later, checks_can_follow,
-    first_can_come, index_tells_health, last_can_leave, nodes_are_numbered, nodes_have_values,
-    sets_can_regroup,
+    first_can_come, first_owned_can_come, index_tells_health, last_can_leave, nodes_are_numbered,
+    nodes_have_values, sets_can_regroup,
 };

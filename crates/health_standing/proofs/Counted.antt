@@ -1,6 +1,5 @@
 -- The valves of their own that the sets of a group have, and how many of these have none.
 use Rattle.std.proofs.Common.{◌≡◌, ◌≤◌, ◌<◌, ◌+◌, ◌-◌, ℕ, zero, suc, List, [], ◌∷◌, length, take, get_or, arith, refl, ap, ◌∙◌, inl, inr}
-use Rattle.std.specs.List.{Contains}
 use Rattle.std.specs.Prelude.{All}
 use Rattle.std.proofs.lemmas.List.{length-take}
 use Rattle.std.proofs.lemmas.List.Elements.{Contains-get_or}

@@ -34,7 +34,7 @@ use Rattle.health_planning.specs.Building.{IsListed, TellsOn}
 use Rattle.health_planning.specs.Changes.{ref_in}
 use Rattle.health_planning.specs.SetRefRecord.{SetRef}
 use Rattle.health_planning.specs.Tables.{HaveSlotsApart}
-use Rattle.health_planning.specs.Wired.{HasSlot, IsCheckValve, IsGroupValve, IsSeated, IsSpare, IsTarget, IsVacant, IsValveFor, group_seat, ids_of, is_watched, own_part, plain, plain_among, seat_of, set_condition, set_seat, spare_condition, valve_with, valves_of, watched_of, with_valve}
+use Rattle.health_planning.specs.Wired.{IsCheckValve, IsGroupValve, IsSeated, IsSpare, IsTarget, IsVacant, IsValveFor, group_seat, ids_of, own_part, plain, plain_among, seat_of, set_condition, set_seat, spare_condition, valve_with, valves_of, watched_of, with_valve}
 use Rattle.health_planning.specs.Zones.{AreZones, Zone, placed_in}
 use Rattle.health_planning.specs.declared.seats.Seat.{Seat}
 use Rattle.health_valves.specs.Pass.{IsIdle, MeetAll}

@@ -1,10 +1,9 @@
 use Rattle.std.proofs.Common.{◌≡◌, ◌<◌, ◌-◌, ℕ, zero, suc, List, Option, Some, arith, refl, ap, sym, ◌∙◌}
-use Rattle.std.specs.Prelude.{All, not}
+use Rattle.std.specs.Prelude.{All}
 use Rattle.std.proofs.lemmas.Bool.{false≢true}
 use mathlib.Core.Path.{subst}
 use Rattle.health_planning.proofs.Members.{one_named}
 use Rattle.health_planning.proofs.Wiring.{first_same}
-use Rattle.health_planning.specs.Looking.{Watches}
 use Rattle.health_planning.specs.Telling.{watch_of}
 use Rattle.health_planning.specs.Wired.{AreMembers, group_seat}
 use Rattle.health_planning.specs.Zones.{AreZones, Zone}

@@ -1,12 +1,12 @@
-use Rattle.std.proofs.Common.{◌≡◌, ◌<◌, ℕ, List, Bool, true, false, Option, None, Some, map, arith, refl, ap, sym, ◌∙◌}
-use Rattle.std.specs.Prelude.{All, length, not}
+use Rattle.std.proofs.Common.{◌≡◌, ◌<◌, ℕ, List, Option, None, Some, map, refl, ap, sym, ◌∙◌}
+use Rattle.std.specs.Prelude.{All, length}
 use Rattle.std.specs.Option.{option_to_list}
 use Rattle.std.proofs.lemmas.Bool.{false≢true}
 use mathlib.Core.Path.{subst}
 use Rattle.health_planning.proofs.Members.{one_named}
 use Rattle.health_planning.specs.Groups.{members_of}
-use Rattle.health_planning.specs.Looking.{IsGroupNow, Watches}
-use Rattle.health_planning.specs.Telling.{evaluates, watch_of}
+use Rattle.health_planning.specs.Looking.{IsGroupNow}
+use Rattle.health_planning.specs.Telling.{watch_of}
 use Rattle.health_planning.specs.Wired.{valve_with}
 use Rattle.health_planning.specs.GroupRecord.{Group}
 use Rattle.health_standing.specs.Founding.{ComesFirstOwned, HasOwnTarget}

@@ -1,4 +1,4 @@
-use Rattle.std.proofs.Common.{◌≡◌, ◌≤◌, ◌<◌, ◌+◌, ◌++◌, ◌∷◌, [], ℕ, zero, suc, List, length, length-append, take, drop, arith, refl, ap, sym, ◌∙◌, Some}
+use Rattle.std.proofs.Common.{◌≡◌, ◌≤◌, ◌+◌, ◌++◌, ◌∷◌, [], ℕ, zero, suc, List, length, length-append, take, drop, arith, refl, ap, sym, ◌∙◌, Some}
 use Rattle.std.proofs.lemmas.List.{length-take, take-append-drop, take_all}
 use mathlib.Core.Path.{subst}
 use Rattle.health_planning.proofs.Groups.{member_at}

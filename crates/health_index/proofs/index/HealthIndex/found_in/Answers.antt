@@ -14,7 +14,7 @@ use Rattle.health_planning.specs.Groups.{members_of}
 use Rattle.health_planning.specs.SetRefRecord.{SetRef}
 use Rattle.health_planning.specs.Wired.{plain_among, valves_of}
 use Rattle.health_planning.specs.declared.seats.Seat.{Seat}
-use Rattle.health_valves.specs.Laying.{HasRoomFor, links_of}
+use Rattle.health_valves.specs.Laying.{HasRoomFor}
 use Rattle.health_valves.specs.Pass.{MeetAll}
 use Rattle.health_valves.specs.Valves.{HasEnds, ValvesStandFor, size_of}
 use Rattle.health_valves.specs.declared.valves.Valves.{Valves}

@@ -1,4 +1,4 @@
-use Rattle.std.proofs.Common.{◌≡◌, ◌≤◌, ◌<◌, ◌+◌, ℕ, suc, List, Some, length, arith, refl, ap, sym, ◌∙◌}
+use Rattle.std.proofs.Common.{◌≡◌, ◌≤◌, ◌+◌, suc, List, Some, length, arith, refl, ap, sym, ◌∙◌}
 use mathlib.Core.Path.{subst}
 use Rattle.health_index.proofs.ByOne.{index_regrouped}
 use Rattle.health_index.proofs.Laid.{adds_by, adds_nothing}
@@ -8,7 +8,6 @@ use Rattle.health_index.specs.Unfounding.{AreSeatedWithout, LeavesLast, told_amo
 use Rattle.health_standing.specs.declared.unfounding.LastAlias.{LastAlias}
 use Rattle.health_planning.specs.Building.{TellSlot}
 use Rattle.health_planning.specs.SetRefRecord.{SetRef}
-use Rattle.health_planning.specs.Wired.{group_seat}
 use Rattle.health_planning.specs.declared.seats.Seat.{Seat}
 use Rattle.health_valves.proofs.Cuts.{ends_now}
 use Rattle.health_valves.specs.Laying.{links_of}
